@@ -1,0 +1,138 @@
+#!/usr/bin/env python3
+"""The gate passes on a good repository and fails where it must: on a crate that crates.txt does not list, on an empty or a
+missing list, on a function that is not proved, on a must-fail edit that is, on a bad layout, on a test that fails or says nothing,
+without tests, and without its tools.
+
+Each case is a scratch copy of this repository with one fault. To be quick, a copy keeps the lowest crate alone; its tests are one
+that passes, so that this one does not start itself.
+"""
+import os
+import re
+import shutil
+import subprocess
+import sys
+import tempfile
+
+ROOT = os.path.dirname(os.path.dirname(os.path.abspath(__file__)))
+
+
+def write(path, text):
+    os.makedirs(os.path.dirname(path), exist_ok=True)
+    with open(path, "w", encoding="utf-8") as file:
+        file.write(text)
+
+
+def scratch(copy):
+    """A copy of the repository with its lowest crate and one test that passes."""
+    shutil.copytree(ROOT, copy, ignore=shutil.ignore_patterns("target", ".git", "crates", "tests", "crates.txt"))
+    with open(os.path.join(ROOT, "crates.txt"), encoding="utf-8") as file:
+        lowest = next(line.split(":")[0] for line in file if re.fullmatch(r"\w+:\s*", line))
+    shutil.copytree(os.path.join(ROOT, "crates", lowest), os.path.join(copy, "crates", lowest))
+    write(os.path.join(copy, "crates.txt"), lowest + ":\n")
+    write(os.path.join(copy, "tests", "test_sample.py"), "print('fine')\n")
+
+
+def no_fault(copy):
+    pass
+
+
+def unlisted_crate(copy):
+    write(os.path.join(copy, "crates", "stray", "src", "lib.rt"), "// A crate that crates.txt does not list.\n")
+
+
+def unproved_function(copy):
+    source = "pub fn one() -> u8\n    ensures { λ r. ⌜ r ≡ 1 ⌝ }\n{\n    2\n}\n"
+    write(os.path.join(copy, "crates", "sample", "src", "lib.rt"), "ghost use mathlib.Core.Path.{_≡_};\n\n" + source)
+    write(os.path.join(copy, "crates.txt"), "sample:\n")
+    shutil.rmtree(os.path.join(copy, "crates", "logic"))
+
+
+def edit_that_is_proved(copy):
+    crate = os.path.join(copy, "crates", "logic")
+    write(os.path.join(crate, "src", "lib.rt"), "// One comment.\n")
+    write(os.path.join(crate, "must-fail", "comment.edit"), "file: src/lib.rt\nold: One\nnew: Another\n")
+
+
+def bad_layout(copy):
+    write(os.path.join(copy, "crates", "logic", "src", "lib.rt"), "const  A:u8=1 ;\n")
+
+
+def empty_list(copy):
+    write(os.path.join(copy, "crates.txt"), "# no crate\n")
+
+
+def missing_list(copy):
+    os.remove(os.path.join(copy, "crates.txt"))
+
+
+def failing_test(copy):
+    write(os.path.join(copy, "tests", "test_other.py"), "import sys\nsys.exit('a fault')\n")
+
+
+def silent_test(copy):
+    write(os.path.join(copy, "tests", "below", "test_silent.py"), "")
+
+
+def other_test(copy):
+    write(os.path.join(copy, "tests", "test_other.txt"), "no program here\n")
+
+
+def no_test(copy):
+    shutil.rmtree(os.path.join(copy, "tests"))
+
+
+def without_tools(folder):
+    """A PATH with the shell's own tools and none of the gate's."""
+    for tool in ("sh", "dirname", "tail", "sed", "cat", "mktemp", "rm", "timeout", "find", "sort"):
+        os.symlink(shutil.which(tool), os.path.join(folder, tool))
+    return folder
+
+
+# The fault, whether the gate's tools are on the PATH, and what the gate has to say.
+CASES = [
+    (unlisted_crate, True, "crates/stray/src/lib.rt"),
+    (unproved_function, True, "the proofs failed"),
+    (edit_that_is_proved, True, "NOT REFUSED"),
+    (bad_layout, True, "rt fmt --check: FAILED"),
+    (empty_list, True, "the proofs failed"),
+    (missing_list, True, "the proofs failed"),
+    (failing_test, True, "tests/test_other.py: FAILED"),
+    (silent_test, True, "tests/below/test_silent.py: FAILED"),
+    (other_test, True, "tests/test_other.txt: FAILED"),
+    (no_test, True, "no test under tests/"),
+    (no_fault, False, "'rt' is not on the PATH"),
+]
+
+
+def gate(fault, tools):
+    """What the gate prints and its exit status on a scratch copy with the fault."""
+    with tempfile.TemporaryDirectory() as room:
+        copy = os.path.join(room, "copy")
+        scratch(copy)
+        fault(copy)
+        environment = dict(os.environ)
+        if not tools:
+            os.mkdir(os.path.join(room, "bin"))
+            environment["PATH"] = without_tools(os.path.join(room, "bin"))
+        command = [shutil.which("sh"), os.path.join(copy, ".ci", "run")]
+        run = subprocess.run(command, capture_output=True, text=True, env=environment, timeout=300)
+    tally = re.fullmatch(r"(\d+) passed, (\d+) failed", run.stdout.strip().split("\n")[-1])
+    if not tally:
+        sys.exit("%s: the gate does not end in its tally:\n%s" % (fault.__name__, run.stdout))
+    return run.returncode, int(tally.group(1)), int(tally.group(2)), run.stdout
+
+
+def main():
+    status, passed, failed, text = gate(no_fault, True)
+    if status != 0 or failed != 0 or passed == 0:
+        sys.exit("the gate does not pass on a good copy:\n%s" % text)
+    for fault, tools, word in CASES:
+        status, passed, failed, text = gate(fault, tools)
+        if status == 0 or failed == 0:
+            sys.exit("%s: the gate passes:\n%s" % (fault.__name__, text))
+        if word not in text:
+            sys.exit("%s: the gate does not say %r:\n%s" % (fault.__name__, word, text))
+    print("the gate passes on a good copy and fails on each of %d faulty ones" % len(CASES))
+
+
+main()
