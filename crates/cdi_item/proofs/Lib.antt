@@ -1,0 +1,5 @@
+pub mod Scan
+pub mod Signed
+pub mod Consistent
+pub mod Determined
+pub mod Trimmed
