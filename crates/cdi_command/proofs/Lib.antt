@@ -1,0 +1,5 @@
+pub mod Bytes
+pub mod Accepted
+pub mod Determined
+pub mod Refusals
+pub mod Responses
