@@ -1,0 +1,5 @@
+pub mod Digits
+pub mod Pairs
+pub mod Lines
+pub mod Text
+pub mod Laws

@@ -1,0 +1,104 @@
+-- Document 01, "The replay program": a line of upper-case hex pairs parted by one space, and the lines that are printed.
+use Prim.Native.Nat.{ℕ, _+_, _-_, _*_, _/_, _%_}
+use mathlib.Core.Bool.{Bool, true, false, cond, _&&_, _||_}
+use mathlib.Core.List.{List, [], _∷_, _++_}
+use lib.Dec.{ltb, leb, eqb}
+use lib.ListN.{length}
+use Rattle.logic.specs.Written.{written}
+use Rattle.hex_text.specs.declared.HexLine.{HexLine}
+use Rattle.hex_text.specs.declared.HexLine.the-variants.{Block, NotHex, NoRoom}
+
+abbrev pub space : ℕ
+space = 32
+
+abbrev pub lineFeed : ℕ
+lineFeed = 10
+
+-- a line over 600 characters is not hex
+abbrev pub lineMax : ℕ
+lineMax = 600
+
+-- `0` to `9`, `A` to `F`
+abbrev pub isDigit : ℕ → Bool
+isDigit c = (leb 48 c && leb c 57) || (leb 65 c && leb c 70)
+
+-- the value of a digit: 0 to 9, 10 to 15
+abbrev pub digitValue : ℕ → ℕ
+digitValue c = cond (leb c 57) (c - 48) (c - 55)
+
+abbrev pub isPair : ℕ → ℕ → Bool
+isPair high low = isDigit high && isDigit low
+
+abbrev pub pairValue : ℕ → ℕ → ℕ
+pairValue high low = digitValue high * 16 + digitValue low
+
+-- what a line is: a block's bytes, or a line of any other form
+pub data Line : Type 0 where
+  block : List ℕ → Line
+  notHex : Line
+
+-- whether a line is a block
+abbrev pub isBlock : Line → Bool
+isBlock (block bs) = true
+isBlock notHex = false
+
+abbrev pub prepend : ℕ → Line → Line
+prepend b (block bs) = block (b ∷ bs)
+prepend b notHex = notHex
+
+-- one pair or more, parted by one space
+unfoldable pub pairs : List ℕ → Line
+pairs [] = notHex
+pairs (high ∷ []) = notHex
+pairs (high ∷ low ∷ []) = cond (isPair high low) (block (pairValue high low ∷ [])) notHex
+pairs (high ∷ low ∷ c ∷ rest) = cond (isPair high low && eqb c space) (prepend (pairValue high low) (pairs rest)) notHex
+
+-- no character at all stands for the empty block; the line feed is not one of the line's characters
+unfoldable pub hexLine : List ℕ → Line
+hexLine line = cond (ltb lineMax (length line)) notHex (cond (eqb (length line) 0) (block []) (pairs line))
+
+-- bytes go over the front of a buffer where they fit, and not at all where they do not: how many are written, and the buffer
+-- afterwards
+abbrev pub lengthIn : List ℕ → List ℕ → ℕ
+lengthIn buffer bytes = cond (leb (length bytes) (length buffer)) (length bytes) 0
+
+abbrev pub writtenIn : List ℕ → List ℕ → List ℕ
+writtenIn buffer bytes = cond (leb (length bytes) (length buffer)) (written buffer bytes) buffer
+
+-- each case of the answer to a line, with `room` bytes to put its block: the block's length where it fits
+abbrev pub lineAnswer : Line → ℕ → HexLine
+lineAnswer notHex room = NotHex
+lineAnswer (block bs) room = cond (leb (length bs) room) (Block (length bs)) NoRoom
+
+-- the buffer afterwards: the block over its front where it fits, else as it was
+abbrev pub lineWritten : Line → List ℕ → List ℕ
+lineWritten notHex buffer = buffer
+lineWritten (block bs) buffer = writtenIn buffer bs
+
+-- the digit of a number below 16
+abbrev pub digitOf : ℕ → ℕ
+digitOf n = cond (ltb n 10) (n + 48) (n + 55)
+
+-- a block as upper-case hex pairs parted by one space
+unfoldable pub hexText : List ℕ → List ℕ
+hexText [] = []
+hexText (b ∷ []) = digitOf (b / 16) ∷ digitOf (b % 16) ∷ []
+hexText (b ∷ c ∷ bs) = digitOf (b / 16) ∷ digitOf (b % 16) ∷ space ∷ hexText (c ∷ bs)
+
+-- a number below 1,000 in decimal, with no leading zero
+abbrev pub decimalText : ℕ → List ℕ
+decimalText n =
+    cond (ltb n 10) ((48 + n) ∷ [])
+    (cond (ltb n 100) ((48 + n / 10) ∷ (48 + n % 10) ∷ []) ((48 + n / 100) ∷ (48 + n / 10 % 10) ∷ (48 + n % 10) ∷ []))
+
+-- `refused`, a space and the number
+abbrev pub refusedText : ℕ → List ℕ
+refusedText n = 114 ∷ 101 ∷ 102 ∷ 117 ∷ 115 ∷ 101 ∷ 100 ∷ 32 ∷ decimalText n
+
+-- `not hex`
+abbrev pub notHexText : List ℕ
+notHexText = 110 ∷ 111 ∷ 116 ∷ 32 ∷ 104 ∷ 101 ∷ 120 ∷ []
+
+-- a line feed ends each line
+abbrev pub printed : List ℕ → List ℕ
+printed text = text ++ lineFeed ∷ []

@@ -1,0 +1,199 @@
+// Lines of upper-case hex pairs parted by one space, read into bytes and written from bytes, and the other lines that the
+// replay program prints: document 01, "The replay program".
+ghost use mathlib.Core.Path.{_≡_};
+ghost use mathlib.Core.Bool.{true};
+ghost use mathlib.Core.List.{[], _∷_};
+ghost use Prim.Native.Nat.{_+_, _*_, _/_, _%_, _<_, _≤_};
+ghost use lib.ListN.{length};
+ghost use lib.Seq.{sets};
+ghost use Rattle.logic.specs.Written.{written};
+ghost use Rattle.hex_text.specs.Hex.{isDigit, isPair, digitValue, pairValue, isBlock, pairs, hexLine, lineAnswer, lineWritten, digitOf, hexText, refusedText, notHexText, printed, lengthIn, writtenIn};
+
+// The most characters of a line of hex.
+const LINE_MAX: usize = 600;
+
+const SPACE: u8 = b' ';
+
+const LINE_FEED: u8 = b'\n';
+
+// What a letter is above the number that it stands for.
+const LETTERS: u8 = b'A' - 10;
+
+// What a line is.
+pub enum HexLine {
+    // A block of so many bytes, which stand at the buffer's front.
+    Block(usize),
+    // A line of any other form, or one that is too long.
+    NotHex,
+    // A block that the buffer is too small for. 200 bytes are always enough.
+    NoRoom,
+}
+
+fn is_digit(c: u8) -> bool
+    ensures { λ r. ⌜ r ≡ isDigit c ⌝ }
+{
+    ((b'0' <= c) & (c <= b'9')) | ((b'A' <= c) & (c <= b'F'))
+}
+
+fn is_pair(high: u8, low: u8) -> bool
+    ensures { λ r. ⌜ r ≡ isPair high low ⌝ }
+{
+    is_digit(high) & is_digit(low)
+}
+
+// Whether a line is one pair or more, parted by one space.
+fn is_pairs(line: &[u8]) -> bool
+    ensures { λ r. ⌜ r ≡ isBlock (pairs (now (line .entry))) ⌝ }
+{
+    let mut i = 0;
+    while line.len() - i > 2 {
+        if is_pair(line[i], line[i + 1]) & (line[i + 2] == SPACE) {
+            i += 3;
+        } else {
+            return false;
+        }
+    }
+    if line.len() - i < 2 {
+        return false;
+    }
+    is_pair(line[i], line[i + 1])
+}
+
+fn digit_value(c: u8) -> u8
+    requires { ⌜ isDigit c ≡ true ⌝ }
+    ensures { λ r. ⌜ r ≡ digitValue c ⌝ }
+{
+    if c <= b'9' { c - b'0' } else { c - LETTERS }
+}
+
+fn pair_value(high: u8, low: u8) -> u8
+    requires { ⌜ isPair high low ≡ true ⌝ }
+    ensures { λ r. ⌜ r ≡ pairValue high low ⌝ }
+{
+    digit_value(high) * 16 + digit_value(low)
+}
+
+// Puts the bytes of a line of pairs over the front of `block`, which has room for them.
+fn decode(line: &[u8], block: &mut [u8])
+    requires { ⌜ (isBlock (pairs (now line)) ≡ true) × (length (now line) < 3 * length (now block)) ⌝ }
+    ensures { λ _. ⌜ now (block .exit) ≡ lineWritten (pairs (now (line .entry))) (now (block .entry)) ⌝ }
+{
+    let mut i = 0;
+    let mut n = 0;
+    while i < line.len() {
+        block[n] = pair_value(line[i], line[i + 1]);
+        n += 1;
+        i += 3;
+    }
+}
+
+// Reads a line, without its line feed, into the front of `block`. A line that is no block, or whose block does not fit,
+// leaves the buffer as it was: nothing is written before the whole line is known to be good.
+pub fn read_line(line: &[u8], block: &mut [u8]) -> HexLine
+    ensures { λ r. ⌜ (r ≡ lineAnswer (hexLine (now (line .entry))) (length (now (block .entry)))) × (now (block .exit) ≡ lineWritten (hexLine (now (line .entry))) (now (block .entry))) ⌝ }
+{
+    if line.len() > LINE_MAX {
+        return HexLine::NotHex;
+    }
+    if line.len() == 0 {
+        return HexLine::Block(0);
+    }
+    if !is_pairs(line) {
+        return HexLine::NotHex;
+    }
+    // The last pair has no space after it.
+    let count = (line.len() + 1) / 3;
+    if count > block.len() {
+        return HexLine::NoRoom;
+    }
+    decode(line, block);
+    HexLine::Block(count)
+}
+
+fn digit_of(n: u8) -> u8
+    requires { ⌜ n < 16 ⌝ }
+    ensures { λ r. ⌜ r ≡ digitOf n ⌝ }
+{
+    if n < 10 { n + b'0' } else { n + LETTERS }
+}
+
+// Writes a byte's two digits and the character after them, from `at` on.
+fn write_pair(byte: u8, after: u8, out: &mut [u8], at: usize)
+    requires { ⌜ at + 3 ≤ length (now out) ⌝ }
+    ensures { λ _. ⌜ now (out .exit) ≡ sets (now (out .entry)) at (digitOf (byte / 16) ∷ digitOf (byte % 16) ∷ after ∷ []) ⌝ }
+{
+    out[at] = digit_of(byte / 16);
+    out[at + 1] = digit_of(byte % 16);
+    out[at + 2] = after;
+}
+
+// Writes one byte or more as a line over the front of `out`, which has room for it.
+fn encode(bytes: &[u8], out: &mut [u8]) -> usize
+    requires { ⌜ (0 < length (now bytes)) × (3 * length (now bytes) ≤ length (now out)) ⌝ }
+    ensures { λ r. ⌜ (r ≡ length (printed (hexText (now (bytes .entry))))) × (now (out .exit) ≡ written (now (out .entry)) (printed (hexText (now (bytes .entry))))) ⌝ }
+{
+    let mut i = 0;
+    let mut at = 0;
+    while i + 1 < bytes.len() {
+        write_pair(bytes[i], SPACE, out, at);
+        i += 1;
+        at += 3;
+    }
+    write_pair(bytes[i], LINE_FEED, out, at);
+    at + 3
+}
+
+// Copies a whole line over the front of `out` where it fits.
+fn copy_line(line: &[u8], out: &mut [u8]) -> usize
+    ensures { λ r. ⌜ (r ≡ lengthIn (now (out .entry)) (now (line .entry))) × (now (out .exit) ≡ writtenIn (now (out .entry)) (now (line .entry))) ⌝ }
+{
+    if line.len() > out.len() {
+        return 0;
+    }
+    bytes::copy(line, out)
+}
+
+// Writes bytes as a line of hex, with its line feed, over the front of `out`, and returns how many bytes that is; 0, and
+// nothing is written, where there is no room.
+pub fn write_block(bytes: &[u8], out: &mut [u8]) -> usize
+    ensures { λ r. ⌜ (r ≡ lengthIn (now (out .entry)) (printed (hexText (now (bytes .entry))))) × (now (out .exit) ≡ writtenIn (now (out .entry)) (printed (hexText (now (bytes .entry))))) ⌝ }
+{
+    if bytes.len() == 0 {
+        return copy_line(b"\n", out);
+    }
+    if bytes.len() > out.len() / 3 {
+        return 0;
+    }
+    encode(bytes, out)
+}
+
+// Writes `refused` and a number in decimal as a line, with its line feed, over the front of `out`, and returns how many
+// bytes that is; 0, and nothing is written, where there is no room.
+pub fn write_refused(number: u8, out: &mut [u8]) -> usize
+    ensures { λ r. ⌜ (r ≡ lengthIn (now (out .entry)) (printed (refusedText number))) × (now (out .exit) ≡ writtenIn (now (out .entry)) (printed (refusedText number))) ⌝ }
+{
+    if number < 10 {
+        let mut line = *b"refused 0\n";
+        line[8] = b'0' + number;
+        return copy_line(&line, out);
+    }
+    if number < 100 {
+        let mut line = *b"refused 00\n";
+        line[8] = b'0' + number / 10;
+        line[9] = b'0' + number % 10;
+        return copy_line(&line, out);
+    }
+    let mut line = *b"refused 000\n";
+    line[8] = b'0' + number / 100;
+    line[9] = b'0' + number / 10 % 10;
+    line[10] = b'0' + number % 10;
+    copy_line(&line, out)
+}
+
+// Writes `not hex` as a line, with its line feed, over the front of `out`, and returns how many bytes that is; 0, and
+// nothing is written, where there is no room.
+pub fn write_not_hex(out: &mut [u8]) -> usize
+    ensures { λ r. ⌜ (r ≡ lengthIn (now (out .entry)) (printed notHexText)) × (now (out .exit) ≡ writtenIn (now (out .entry)) (printed notHexText)) ⌝ }
+{
+    copy_line(b"not hex\n", out)
+}
