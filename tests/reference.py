@@ -1,0 +1,283 @@
+"""An independent implementation of document 01, to hold the project's code against.
+
+It is written from the paper alone and laid out by the paper's sections. Every function is pure,
+over bytes and whole numbers. A refusal is given as its number; 0 stands for accepted.
+"""
+
+from collections import namedtuple
+
+# ---- 01, "Numbers that a refusal carries" ----------------------------------------------------
+
+ACCEPTED = 0
+ENDS_EARLY = 3
+START_WRONG = 4
+LENGTH_BYTE_LOW = 5
+BYTES_AFTER_FRAME = 6
+COMMAND_NOT_SERVED = 7
+PAYLOAD_LENGTH_WRONG = 8
+ITEM_NOT_SERVED = 9
+COMMAND_NOT_PERMITTED = 10
+INDEX_WRONG = 11
+VALUE_NOT_ACCEPTED = 12
+COMMAND_BUFFER_SHORT = 13
+WAKE_COUNT_HIGH = 14
+READING_COUNT_WRONG = 15
+READING_HIGH = 16
+
+# ---- 01, "Frame" -----------------------------------------------------------------------------
+
+FRAME_START = 0x80
+WAKE = 0xFF
+MOST_WAKES = 16
+WAKES_END = 0x55
+LENGTH_BASE = 0x80  # the length byte of n payload bytes is 80+n
+
+READ = 0x01
+WRITE = 0x02
+READ_NV = 0x03
+PROGRAM = 0x04
+SET_DEFAULT = 0x81
+ERASE_ALL_ADDRESSES = 0x82
+
+
+def read_frame(block):
+    """Refusal, payload's start and payload's length of a block that must be exactly one frame.
+
+    01, "Frame"; numbers 3 to 6 go by the first byte that is wrong or missing.
+    """
+    at = 0
+    if at == len(block):
+        return ENDS_EARLY, 0, 0
+    if block[at] != FRAME_START:
+        return START_WRONG, 0, 0
+    at += 1
+    wakes = 0
+    while at < len(block) and block[at] == WAKE:
+        wakes += 1
+        if wakes > MOST_WAKES:
+            return START_WRONG, 0, 0
+        at += 1
+    if at == len(block):
+        return ENDS_EARLY, 0, 0
+    if block[at] != WAKES_END:
+        return START_WRONG, 0, 0
+    at += 1
+    if at == len(block):
+        return ENDS_EARLY, 0, 0
+    if block[at] < LENGTH_BASE + 1:
+        return LENGTH_BYTE_LOW, 0, 0
+    length = block[at] - LENGTH_BASE
+    at += 1
+    if len(block) < at + length:
+        return ENDS_EARLY, 0, 0
+    if len(block) > at + length:
+        return BYTES_AFTER_FRAME, 0, 0
+    return ACCEPTED, at, length
+
+
+# ---- 01, "Items" -----------------------------------------------------------------------------
+
+Item = namedtuple("Item", "code value_bytes indexed commands")
+
+# The item list. Commands: R Read, N Read NV, W Write, P Program.
+ITEMS = {
+    item.code: item
+    for item in (
+        Item(0x01, 17, False, "RN"),  # name, up to 17 bytes
+        Item(0x02, 3, False, "RN"),  # firmware
+        Item(0x03, 4, False, "RN"),  # serial
+        Item(0x10, 4, False, "RNP"),  # address
+        Item(0x11, 1, False, "RNWP"),  # line mask
+        Item(0x12, 1, False, "RNWP"),  # latch mask
+        Item(0x13, 1, False, "RNWP"),  # TX power
+        Item(0x14, 1, False, "RNWP"),  # control word
+        Item(0x15, 1, False, "RNWP"),  # message select
+        Item(0x16, 5, True, "RNWP"),  # analog input
+        Item(0x18, 5, True, "RNP"),  # paired module
+        Item(0x20, 2, False, "R"),  # lines
+        Item(0x21, 2, False, "R"),  # RSSI
+        Item(0x22, 1, False, "R"),  # LADJ
+        Item(0x23, 4, False, "R"),  # status
+        Item(0x25, 1, False, "RWP"),  # interrupt mask
+        Item(0x26, 1, False, "R"),  # events
+    )
+}
+
+LETTERS = {READ: "R", READ_NV: "N", WRITE: "W", PROGRAM: "P"}
+
+
+def is_slot_index(index):
+    """01, "Item 18": forty slots, index 0 to 39."""
+    return 0 <= index <= 39
+
+
+def is_input_number(number):
+    """01, "Item 16": index 1 or 2."""
+    return number == 1 or number == 2
+
+
+def is_index(item, index):
+    """01, "Items": which index an indexed item has."""
+    return is_input_number(index) if item == 0x16 else is_slot_index(index)
+
+
+def accepts_tx_power(value):
+    """01, "Items", row 13: signed, -20 to +10 dBm."""
+    return -20 <= int.from_bytes(value, "big", signed=True) <= 10
+
+
+def accepts_control_word(value):
+    """01, "Items", row 14: bits 5 to 7 zero."""
+    return all(value[0] >> bit & 1 == 0 for bit in (5, 6, 7))
+
+
+def accepts_message_select(value):
+    """01, "Items", row 15: 0 to 6."""
+    return 0 <= value[0] <= 6
+
+
+def accepts_analog_input(value):
+    """01, "Item 16": channel, readings averaged, reference, then an offset of any value."""
+    channel, readings, reference = value[:3]
+    return (
+        channel in (0x04, 0x05, 0x06, 0x07, 0xFE, 0xFF)
+        and 1 <= readings <= 16
+        and reference in (0, 1)
+    )
+
+
+def accepts_slot(value):
+    """01, "Item 18": the zero address is accepted with mask 00 alone, which empties the slot."""
+    address, mask = value[:4], value[4]
+    return address != b"\x00\x00\x00\x00" or mask == 0x00
+
+
+ACCEPTANCE = {
+    0x13: accepts_tx_power,
+    0x14: accepts_control_word,
+    0x15: accepts_message_select,
+    0x16: accepts_analog_input,
+    0x18: accepts_slot,
+}
+
+
+def accepts(item, value):
+    """01, "Items", column "Accepted values": an item without a rule of its own accepts all."""
+    return item not in ACCEPTANCE or ACCEPTANCE[item](value)
+
+
+# ---- 01, "Frame" (payloads) and "Numbers that a refusal carries" (their order) ---------------
+
+
+def validate_payload(payload):
+    """The refusal of a payload, or 0.
+
+    3 where it is empty; then 7; 8 if it has no item or goes on behind 81 or 82; 9; 10; 8 for
+    every other length; 11; 12.
+    """
+    if len(payload) == 0:
+        return ENDS_EARLY
+    command = payload[0]
+    if command in (SET_DEFAULT, ERASE_ALL_ADDRESSES):
+        return ACCEPTED if len(payload) == 1 else PAYLOAD_LENGTH_WRONG
+    if command not in LETTERS:
+        return COMMAND_NOT_SERVED
+    if len(payload) == 1:
+        return PAYLOAD_LENGTH_WRONG
+    if payload[1] not in ITEMS:
+        return ITEM_NOT_SERVED
+    item = ITEMS[payload[1]]
+    if LETTERS[command] not in item.commands:
+        return COMMAND_NOT_PERMITTED
+    sets_value = command in (WRITE, PROGRAM)
+    value_start = 3 if item.indexed else 2
+    if len(payload) != value_start + (item.value_bytes if sets_value else 0):
+        return PAYLOAD_LENGTH_WRONG
+    if item.indexed and not is_index(item.code, payload[2]):
+        return INDEX_WRONG
+    if sets_value and not accepts(item.code, payload[value_start:]):
+        return VALUE_NOT_ACCEPTED
+    return ACCEPTED
+
+
+# ---- 01, "Readout and percent" ---------------------------------------------------------------
+
+
+def readout(readings, offset):
+    """Refusal and readout of 1 to 16 readings of 0 to 4,095 and a signed 16-bit offset."""
+    if len(readings) < 1 or len(readings) > 16:
+        return READING_COUNT_WRONG, 0
+    if any(reading > 4095 for reading in readings):
+        return READING_HIGH, 0
+    # one division, whose rest is dropped, and then the offset
+    total = 16 * sum(readings) // len(readings) + offset
+    # the ends of a 16-bit number
+    if total < 0:
+        return ACCEPTED, 0
+    if total > 65535:
+        return ACCEPTED, 65535
+    return ACCEPTED, total
+
+
+def percent(readout):
+    """Percent of 65,536 as a whole number, the nearer one, and the upper of two equally near."""
+    below, rest = divmod(readout * 100, 65536)
+    nearer_to_the_whole_below = rest < 65536 - rest
+    return below if nearer_to_the_whole_below else below + 1
+
+
+# ---- 01, "Command writer and stored image" ---------------------------------------------------
+
+COMMAND_BUFFER = 27  # the least length of the writer's buffer
+
+
+def encode_command(payload, wake, frame):
+    """Refusal, length of the frame and the whole buffer afterwards.
+
+    13, 14, 3 for an empty payload, then from 7. Bytes after the frame stay, and a refusal
+    changes none.
+    """
+    if len(frame) < COMMAND_BUFFER:
+        return COMMAND_BUFFER_SHORT, 0, frame
+    if wake > MOST_WAKES:
+        return WAKE_COUNT_HIGH, 0, frame
+    refusal = validate_payload(payload)
+    if refusal != ACCEPTED:
+        return refusal, 0, frame
+    prefix = [FRAME_START] + wake * [WAKE] + [WAKES_END, LENGTH_BASE + len(payload)]
+    written = bytes(prefix) + payload
+    return ACCEPTED, len(written), written + frame[len(written) :]
+
+
+# ---- 01, "Examples", the replay program's lines ----------------------------------------------
+
+LONGEST_LINE = 600
+HEX_DIGITS = b"0123456789ABCDEF"
+
+
+def parse_line(line):
+    """The block of a line that is handed over without its line feed, or None for `not hex`."""
+    if len(line) > LONGEST_LINE:
+        return None
+    if line == b"":
+        return b""
+    pairs = line.split(b" ")
+    for pair in pairs:
+        if len(pair) != 2 or pair[0] not in HEX_DIGITS or pair[1] not in HEX_DIGITS:
+            return None
+    return bytes(16 * HEX_DIGITS.index(high) + HEX_DIGITS.index(low) for high, low in pairs)
+
+
+def format_block(block):
+    """The printed line of a block: upper-case pairs parted by one space, then a line feed."""
+    return " ".join("%02X" % byte for byte in block) + "\n"
+
+
+def format_refused(refusal):
+    """The printed line of a refused block."""
+    return "refused %d\n" % refusal
+
+
+def format_not_hex():
+    """The printed line of a line that is no block."""
+    return "not hex\n"

@@ -1,0 +1,755 @@
+#!/usr/bin/env python3
+"""Compares the project's leaf functions with reference.py, call by call.
+
+Builds the crate `leaf_probe` as a shared library and calls its functions over the examples of
+document 01, over edges and over random inputs of a fixed seed. Every buffer that is handed over
+lies between guard bytes; guards, inputs and all bytes of the outputs are compared too. The
+first difference ends the run with exit status 1.
+"""
+
+import ctypes
+import itertools
+import pathlib
+import random
+import shutil
+import subprocess
+import sys
+import tempfile
+
+sys.dont_write_bytecode = True  # leaves no files beside the tests
+
+import reference
+
+ROOT = pathlib.Path(__file__).resolve().parent.parent
+SEED = 20240001
+
+
+class Problem(Exception):
+    """The library can't be built, or it differs from the reference."""
+
+
+# ---- The library -----------------------------------------------------------------------------
+
+
+def run(*words):
+    """Runs a command from the repository's root; what it printed is shown if it fails."""
+    if shutil.which(words[0]) is None:
+        raise Problem(f"`{words[0]}` is not installed, or not on the path")
+    done = subprocess.run(
+        words, cwd=ROOT, stdout=subprocess.PIPE, stderr=subprocess.STDOUT, text=True
+    )
+    if done.returncode != 0:
+        raise Problem(f"`{' '.join(words)}` failed with {done.returncode}:\n{done.stdout}")
+
+
+def build(folder):
+    """Proves and compiles the crate, and links it to a shared library in the folder."""
+    library = str(pathlib.Path(folder) / "leaves.so")
+    archive = "target/staticlib/libleaf_probe.a"
+    run("rt", "staticlib", "leaf_probe")
+    run("gcc", "-shared", "-o", library, "-Wl,--whole-archive", archive, "-Wl,--no-whole-archive")
+    return library
+
+
+def struct(**fields):
+    return type("Result", (ctypes.Structure,), {"_fields_": list(fields.items())})
+
+
+BYTE, SIZE, POINTER = ctypes.c_uint8, ctypes.c_size_t, ctypes.c_void_p
+
+# Each function's result and arguments.
+SIGNATURES = {
+    "probe_readout": (
+        struct(refusal=BYTE, readout=ctypes.c_uint16),
+        (POINTER, SIZE, ctypes.c_int16),
+    ),
+    "probe_percent": (BYTE, (ctypes.c_uint16,)),
+    "probe_frame_refusal": (BYTE, (POINTER, SIZE)),
+    "probe_frame_span": (struct(start=SIZE, length=SIZE), (POINTER, SIZE)),
+    "probe_payload_refusal": (BYTE, (POINTER, SIZE)),
+    "probe_find_item": (struct(served=BYTE, length=BYTE, indexed=BYTE, marks=BYTE), (BYTE,)),
+    "probe_accepts": (BYTE, (BYTE,) * 6),
+    "probe_is_slot_index": (BYTE, (BYTE,)),
+    "probe_is_input_number": (BYTE, (BYTE,)),
+    "probe_encode_command": (
+        struct(refusal=BYTE, length=SIZE),
+        (POINTER, SIZE, SIZE, POINTER, SIZE),
+    ),
+    "probe_read_line": (struct(outcome=BYTE, length=SIZE), (POINTER, SIZE, POINTER, SIZE)),
+    "probe_write_block": (SIZE, (POINTER, SIZE, POINTER, SIZE)),
+    "probe_write_refused": (SIZE, (BYTE, POINTER, SIZE)),
+    "probe_write_not_hex": (SIZE, (POINTER, SIZE)),
+}
+
+
+def load(path):
+    """The library, with the signature of each of its functions."""
+    library = ctypes.CDLL(path)
+    for name, (result, arguments) in SIGNATURES.items():
+        try:
+            function = getattr(library, name)
+        except AttributeError:
+            raise Problem(f"the library has no function {name}") from None
+        function.restype = result
+        function.argtypes = arguments
+    return library
+
+
+# ---- Comparing -------------------------------------------------------------------------------
+
+GUARD = bytes(range(0xA0, 0xB0))
+
+
+class Memory:
+    """Memory that is handed to the library: some bytes between two guards."""
+
+    def __init__(self, room):
+        self.bytes = bytearray(len(GUARD) + room + len(GUARD))
+        self.held = ctypes.c_char.from_buffer(self.bytes)  # keeps the bytes at their place
+        self.address = ctypes.addressof(self.held) + len(GUARD)
+        assert self.address % 2 == 0, "readings are 16-bit numbers"
+        self.give(b"")
+
+    def give(self, content):
+        self.given = content
+        self.bytes[: len(content) + 2 * len(GUARD)] = GUARD + content + GUARD
+        return self.address
+
+    def content(self):
+        """The bytes as they are now, or word of a changed guard, which equals no bytes."""
+        end = len(GUARD) + len(self.given)
+        whole = bytes(self.bytes[: end + len(GUARD)])
+        if whole.startswith(GUARD) and whole.endswith(GUARD):
+            return whole[len(GUARD) : end]
+        return "a guard is changed, with the guards it is", whole
+
+
+def show(value):
+    """A value as a line of text: bytes as hexadecimal pairs, a very long one cut."""
+    if isinstance(value, tuple):
+        return ", ".join(show(part) for part in value)
+    if isinstance(value, bytes):
+        text = f"{len(value)} bytes [{value.hex(' ').upper()}]"
+    else:
+        text = repr(value)
+    return text if len(text) <= 3000 else text[:3000] + " ... (cut)"
+
+
+class Comparison:
+    """A method for each function of the library: it calls the library and the reference, compares
+    what came, and returns it."""
+
+    def __init__(self, library):
+        self.library = library
+        self.calls = 0
+        self.input = Memory(140_000)
+        self.output = Memory(140_000)
+
+    def same(self, what, expected, came, **inputs):
+        """Raises a Problem if two values differ."""
+        if expected != came:
+            lines = [f"difference in {what}"]
+            lines += [f"  {name}: {show(value)}" for name, value in inputs.items()]
+            lines += [f"  expected: {show(expected)}", f"  came:     {show(came)}"]
+            raise Problem("\n".join(lines))
+
+    def called(self, function, expected, came, **inputs):
+        """Counts one call and compares its result, and that the input given is as it was."""
+        self.calls += 1
+        self.same(function, expected, came, **inputs)
+        self.same(f"the input of {function}", self.input.given, self.input.content(), **inputs)
+        return came
+
+    def readout(self, readings, offset):
+        address = self.input.give(b"".join(r.to_bytes(2, sys.byteorder) for r in readings))
+        result = self.library.probe_readout(address, len(readings), offset)
+        expected = reference.readout(readings, offset)
+        came = result.refusal, result.readout
+        return self.called("probe_readout", expected, came, readings=readings, offset=offset)
+
+    def percent(self, readout):
+        came = self.library.probe_percent(readout)
+        return self.called("probe_percent", reference.percent(readout), came, readout=readout)
+
+    def frame(self, block):
+        refusal, start, length = reference.read_frame(block)
+        address = self.input.give(block)
+        came = self.library.probe_frame_refusal(address, len(block))
+        self.called("probe_frame_refusal", refusal, came, block=block)
+        span = self.library.probe_frame_span(address, len(block))
+        came = span.start, span.length
+        self.called("probe_frame_span", (start, length), came, block=block)
+        return refusal, start, length
+
+    def payload(self, payload):
+        came = self.library.probe_payload_refusal(self.input.give(payload), len(payload))
+        expected = reference.validate_payload(payload)
+        return self.called("probe_payload_refusal", expected, came, payload=payload)
+
+    def item(self, code):
+        expected = 0, 0, 0, 0
+        if code in reference.ITEMS:
+            item = reference.ITEMS[code]
+            marks = sum({"R": 1, "N": 2, "W": 4, "P": 8}[letter] for letter in item.commands)
+            expected = 1, item.value_bytes, int(item.indexed), marks
+        result = self.library.probe_find_item(code)
+        came = result.served, result.length, result.indexed, result.marks
+        return self.called("probe_find_item", expected, came, item=bytes([code]))
+
+    def accepts(self, item, value):
+        came = self.library.probe_accepts(item, *value.ljust(5, b"\x00"))
+        expected = int(reference.accepts(item, value))
+        return self.called("probe_accepts", expected, came, item=bytes([item]), value=value)
+
+    def is_slot_index(self, index):
+        came = self.library.probe_is_slot_index(index)
+        return self.called(
+            "probe_is_slot_index", int(reference.is_slot_index(index)), came, index=index
+        )
+
+    def is_input_number(self, number):
+        came = self.library.probe_is_input_number(number)
+        return self.called(
+            "probe_is_input_number", int(reference.is_input_number(number)), came, number=number
+        )
+
+    def encode(self, payload, wake, frame):
+        result = self.library.probe_encode_command(
+            self.input.give(payload), len(payload), wake, self.output.give(frame), len(frame)
+        )
+        expected = reference.encode_command(payload, wake, frame)
+        came = result.refusal, result.length, self.output.content()
+        return self.called(
+            "probe_encode_command", expected, came, payload=payload, wake=wake, frame=frame
+        )
+
+    def read_line(self, line, buffer):
+        block = reference.parse_line(line)
+        if block is None:
+            expected = 1, 0, buffer
+        elif len(block) > len(buffer):
+            expected = 2, 0, buffer
+        else:
+            expected = 0, len(block), block + buffer[len(block) :]
+        result = self.library.probe_read_line(
+            self.input.give(line), len(line), self.output.give(buffer), len(buffer)
+        )
+        came = result.outcome, result.length, self.output.content()
+        return self.called("probe_read_line", expected, came, line=line, buffer=buffer)
+
+    def written(self, function, arguments, text, out, **inputs):
+        """A line that is printed: over the front of the buffer, or not at all for want of room."""
+        line = text.encode("ascii")
+        if len(line) > len(out):
+            line = b""
+        write = getattr(self.library, function)
+        length = write(*arguments, self.output.give(out), len(out))
+        came = length, self.output.content()
+        return self.called(function, (len(line), line + out[len(line) :]), came, **inputs, out=out)
+
+    def write_block(self, block, out):
+        arguments = self.input.give(block), len(block)
+        text = reference.format_block(block)
+        return self.written("probe_write_block", arguments, text, out, block=block)
+
+    def write_refused(self, refusal, out):
+        text = reference.format_refused(refusal)
+        return self.written("probe_write_refused", (refusal,), text, out, refusal=refusal)
+
+    def write_not_hex(self, out):
+        return self.written("probe_write_not_hex", (), reference.format_not_hex(), out)
+
+
+# ---- Examples of document 01 -----------------------------------------------------------------
+
+# The block examples, line by line, with the refusal that the frame or else the payload gives.
+BLOCK_EXAMPLES = (
+    ("80 55 82 01 15", 0),
+    ("80 FF FF 55 82 01 15", 0),
+    ("80" + 16 * " FF" + " 55 82 01 15", 0),
+    ("80" + 17 * " FF" + " 55 82 01 15", 4),
+    ("80 55 83 04 15 06", 0),
+    ("80 55 82 03 15", 0),
+    ("80 55 83 02 15 07", 12),
+    ("80 55 82 03 25", 10),
+    ("80 55 83 02 13 EC", 0),
+    ("80 55 83 02 13 EB", 12),
+    ("80 55 83 02 13 0A", 0),
+    ("80 55 83 02 13 0B", 12),
+    ("80 55 81 82", 0),
+    ("80 55 81 01", 8),
+    ("80 55 88 04 18 27 01 02 03 04 05", 0),
+    ("80 55 88 04 18 28 01 02 03 04 05", 11),
+    ("80 55 88 04 18 27 00 00 00 00 01", 12),
+    ("80 55 83 01 16 02", 0),
+    ("80 55 83 01 16 00", 11),
+    ("80 55 83 01 16 03", 11),
+    ("80 55 82 01 18", 8),
+    ("", 3),
+    ("80", 3),
+    ("81", 4),
+    ("80 55 80", 5),
+    ("80 55 82 01", 3),
+    ("80 55 82 01 15 00", 6),
+    ("80 55 82 05 15", 7),
+    ("80 55 82 01 17", 9),
+    # the replay program's input
+    ("80 55 83 02 15 03", 0),
+)
+
+# The responses among the examples, as they are printed.
+PRINTED_EXAMPLES = (
+    "80 55 83 C1 15 00",
+    "80 55 85 C0 00 04 15 06",
+    "80 55 83 C2 15 06",
+    "80 55 83 C0 00 82",
+    "80 55 85 C0 00 02 15 03",
+    "80 55 83 C1 15 03",
+)
+REFUSED_EXAMPLES = ((12, "refused 12\n"), (10, "refused 10\n"))
+
+READOUT_EXAMPLES = (
+    ([3563, 3564], 0, 57016),
+    ([4095], 15, 65535),
+    ([4095], 16, 65535),
+    ([0], -1, 0),
+)
+PERCENT_EXAMPLES = ((57016, 87), (327, 0), (328, 1))
+
+# The order of refusals, where a payload breaks several rules at once.
+PAYLOAD_ORDER = (
+    ("", 3),
+    ("05", 7),  # an unserved command, before its missing item
+    ("83", 7),
+    ("05 17", 7),
+    ("01", 8),  # a missing item
+    ("81 00", 8),  # a long 81
+    ("82 00", 8),
+    ("02 17 00 00", 9),  # an unserved item, before its length
+    ("02 01", 10),  # a command that isn't permitted, before its length
+    ("04 26", 10),
+    ("03 25 00", 10),
+    ("01 16", 8),  # any other wrong length, before index and value
+    ("01 15 00", 8),
+    ("02 15", 8),
+    ("02 15 07 00", 8),
+    ("04 18 28 00 00 00 00", 8),
+    ("04 18 28 00 00 00 00 01", 11),  # the index, before the value
+    ("02 16 00 03 00 02 00 00", 11),
+    ("02 16 01 03 00 02 00 00", 12),
+)
+
+
+def check_examples(compare, rng):
+    """The paper's examples: the reference and the library give what the paper gives."""
+    both = (
+        (reference.read_frame, reference.validate_payload),
+        (compare.frame, compare.payload),
+    )
+    for text, expected in BLOCK_EXAMPLES:
+        block = bytes.fromhex(text)
+        for read_frame, validate_payload in both:
+            refusal, start, length = read_frame(block)
+            if refusal == 0:
+                refusal = validate_payload(block[start : start + length])
+            compare.same("an example of document 01", expected, refusal, block=block)
+    for text, expected in PAYLOAD_ORDER:
+        payload = bytes.fromhex(text)
+        came = compare.payload(payload)
+        compare.same("the order of refusals", expected, came, payload=payload)
+    for readings, offset, expected in READOUT_EXAMPLES:
+        came = compare.readout(readings, offset)
+        compare.same("an example", (0, expected), came, readings=readings, offset=offset)
+    for readout, expected in PERCENT_EXAMPLES:
+        compare.same("an example", expected, compare.percent(readout), readout=readout)
+
+
+def check_example_lines(compare, rng):
+    """The paper's example lines: read as the bytes they show, and printed as they stand."""
+    for text in [text for text, _ in BLOCK_EXAMPLES] + list(PRINTED_EXAMPLES):
+        line, block = text.encode("ascii"), bytes.fromhex(text)
+        outcome, length, buffer = compare.read_line(line, rng.randbytes(40))
+        compare.same("a line read", (0, block), (outcome, buffer[:length]), line=line)
+        length, out = compare.write_block(block, rng.randbytes(120))
+        compare.same("a line printed", line + b"\n", out[:length], block=block)
+    for refusal, text in REFUSED_EXAMPLES:
+        length, out = compare.write_refused(refusal, rng.randbytes(40))
+        compare.same("a line printed", text.encode("ascii"), out[:length], refusal=refusal)
+    length, out = compare.write_not_hex(rng.randbytes(40))
+    compare.same("a line printed", b"not hex\n", out[:length])
+
+
+# ---- Readout and percent ---------------------------------------------------------------------
+
+# Added to a size, these leave its lowest one or two bytes as they were.
+WRAPS = (2**8, 2**16)
+
+
+def check_readout(compare, rng):
+    offsets = (-32768, -1, 0, 1, 15, 16, 32767)
+    for count, offset in itertools.product(range(18), offsets):
+        for reading in (0, 1, 4094, 4095, 4096, 65535):
+            compare.readout([reading] * count, offset)
+        for place, high in itertools.product(range(count), (4096, 65535)):
+            readings = [rng.randrange(4096) for _ in range(count)]
+            readings[place] = high
+            compare.readout(readings, offset)
+        for _ in range(20):
+            readings = [rng.randrange(4096) for _ in range(count)]
+            compare.readout(readings, offset)
+            compare.readout(readings, rng.randrange(-32768, 32768))
+            compare.readout([rng.randrange(65536) for _ in range(count)], offset)
+    # the average is near one of its ends, and so is the readout
+    for count in range(1, 17):
+        for _ in range(100):
+            high = [rng.randrange(4090, 4096) for _ in range(count)]
+            compare.readout(high, rng.randrange(-20, 100))
+            low = [rng.randrange(6) for _ in range(count)]
+            compare.readout(low, rng.randrange(-100, 20))
+    for wrap, count in itertools.product(WRAPS, (0, 1, 16)):
+        compare.readout([4095] * (wrap + count), 0)
+        compare.readout([4096] * (wrap + count), 0)
+
+
+def check_percent(compare, rng):
+    for readout in range(65536):
+        compare.percent(readout)
+
+
+# ---- Frame -----------------------------------------------------------------------------------
+
+
+def frame(wake, payload):
+    """A frame by the paper's sentence, with any wake count and payload."""
+    return b"\x80" + wake * b"\xff" + b"\x55" + bytes([0x80 + len(payload)]) + payload
+
+
+def check_frame_lengths(compare, rng):
+    """Each wake count and length byte, with no payload, one byte too few, right, one too many."""
+    for wake, length_byte in itertools.product(range(19), range(256)):
+        start = b"\x80" + wake * b"\xff" + b"\x55" + bytes([length_byte])
+        length = length_byte % 128
+        for size in {0, max(length - 1, 0), length, length + 1}:
+            compare.frame(start + rng.randbytes(size))
+
+
+def check_frame_damage(compare, rng):
+    """Frames that are cut, lengthened, or changed at one place by each byte."""
+    frames = [
+        frame(wake, payload)
+        for wake in (0, 1, 2, 15, 16, 17)
+        for payload in (b"\x82", b"\x01\x15", b"\x04\x18\x27\x01\x02\x03\x04\x05")
+    ]
+    for whole in frames + [frame(0, rng.randbytes(127)), frame(16, rng.randbytes(127))]:
+        compare.frame(whole)
+        for size in (1, 2, 3, *WRAPS):
+            compare.frame(whole + bytes(size))
+        for place in range(len(whole)):
+            compare.frame(whole[:place])
+            compare.frame(whole[:place] + whole[place + 1 :])
+            for byte in (b"\x00", b"\x55", b"\x80", b"\x82", b"\xff"):
+                compare.frame(whole[:place] + byte + whole[place:])
+    for whole in frames[3:6] + frames[12:15]:
+        for place, byte in itertools.product(range(len(whole)), range(256)):
+            compare.frame(whole[:place] + bytes([byte]) + whole[place + 1 :])
+
+
+def check_frame_random(compare, rng):
+    likely = b"\x80\xff\xff\xff\x55\x55\x81\x82\x83\x88"
+    for _ in range(8000):
+        compare.frame(rng.randbytes(rng.randrange(30)))
+        compare.frame(b"\x80" + bytes(rng.choices(likely, k=rng.randrange(12))))
+        start = b"\x80" + rng.randrange(4) * b"\xff" + b"\x55"
+        compare.frame(start + bytes([0x80 + rng.randrange(6)]) + rng.randbytes(rng.randrange(6)))
+
+
+# ---- Items -----------------------------------------------------------------------------------
+
+
+def check_items(compare, rng):
+    for byte in range(256):
+        compare.item(byte)
+        compare.is_slot_index(byte)
+        compare.is_input_number(byte)
+
+
+def check_values(compare, rng):
+    """Every value of the one-byte items, and random values of all that have at most five bytes."""
+    for item in reference.ITEMS.values():
+        if item.value_bytes == 1:
+            for byte in range(256):
+                compare.accepts(item.code, bytes([byte]))
+        elif item.value_bytes <= 5:
+            for _ in range(500):
+                compare.accepts(item.code, rng.randbytes(item.value_bytes))
+
+
+def check_analog_input_values(compare, rng):
+    offsets = (b"\x00\x00", b"\x7f\xff", b"\x80\x00", b"\xff\xff")
+    for parts in itertools.product(range(256), range(18), range(3)):
+        compare.accepts(0x16, bytes(parts) + rng.choice(offsets))
+    for byte in range(256):
+        compare.accepts(0x16, bytes([0x04, byte, 0x00]) + rng.randbytes(2))
+        compare.accepts(0x16, bytes([0xFE, 0x10, byte]) + rng.randbytes(2))
+        compare.accepts(0x16, bytes([0xFF, 0x01, 0x01, byte, 0xFF - byte]))
+
+
+def check_slot_values(compare, rng):
+    """The zero address, all ones, and addresses with one bit set, with each mask."""
+    addresses = [bytes(4), b"\xff\xff\xff\xff"]
+    addresses += [(1 << bit).to_bytes(4, "big") for bit in range(32)]
+    for address, mask in itertools.product(addresses, range(256)):
+        compare.accepts(0x18, address + bytes([mask]))
+
+
+# ---- Payloads --------------------------------------------------------------------------------
+
+COMMANDS = (0x00, 0x01, 0x02, 0x03, 0x04, 0x05, 0x80, 0x81, 0x82, 0x83, 0xC1, 0xFF)
+UNSERVED_ITEMS = (0x00, 0x04, 0x17, 0x19, 0x1A, 0x24, 0x27, 0x28, 0x29, 0xFF)
+INDEXES = (0x00, 0x01, 0x02, 0x03, 0x26, 0x27, 0x28, 0xFF)
+
+# Values at both sides of each item's limits.
+EDGE_VALUES = {
+    0x13: ("EB", "EC", "0A", "0B", "80"),
+    0x14: ("1F", "20", "40", "80"),
+    0x15: ("06", "07"),
+    0x16: (
+        "FF 01 00 00 00",
+        "04 10 01 80 00",
+        "03 01 00 00 00",
+        "08 01 00 00 00",
+        "FD 01 00 00 00",
+        "07 00 00 00 00",
+        "07 11 00 00 00",
+        "FE 01 02 00 00",
+    ),
+    0x18: ("00 00 00 00 01", "00 00 00 00 FF", "00 00 00 01 00", "01 00 00 00 00"),
+}
+
+
+def edge_payloads():
+    """Each command with each item, in every length up to two bytes over a whole Program, with
+    every pair of a good or bad index and a good or bad value; each once, in a fixed order."""
+    payloads = set()
+    for code in [*reference.ITEMS, *UNSERVED_ITEMS]:
+        item = reference.ITEMS.get(code, reference.Item(code, 1, False, ""))
+        indexes = [bytes([index]) for index in INDEXES] if item.indexed else [b""]
+        values = [bytes(item.value_bytes), item.value_bytes * b"\xff"]
+        values += [bytes.fromhex(value) for value in EDGE_VALUES.get(code, ())]
+        for command, index, value in itertools.product(COMMANDS, indexes, values):
+            whole = bytes([command, code]) + index + value + b"\x00\x01"
+            payloads.update(whole[:size] for size in range(len(whole) + 1))
+    return sorted(payloads)
+
+
+def random_payload(rng):
+    """A payload that is often near one that is accepted."""
+    if rng.random() < 0.2:
+        return rng.randbytes(rng.randrange(24))
+    command = rng.choice(COMMANDS[1:5])
+    item = reference.ITEMS[rng.choice(list(reference.ITEMS))]
+    payload = bytes([command, item.code])
+    if item.indexed:
+        payload += bytes([rng.choice(INDEXES + (rng.randrange(256),))])
+    if command in (0x02, 0x04):
+        small = rng.random() < 0.7
+        payload += bytes(rng.randrange(8 if small else 256) for _ in range(item.value_bytes))
+    change = rng.randrange(10)
+    return payload[:-1] if change == 0 else payload + b"\x01" if change == 1 else payload
+
+
+def check_short_payloads(compare, rng):
+    """Every payload of no, one and two bytes."""
+    for size in range(3):
+        for payload in itertools.product(range(256), repeat=size):
+            compare.payload(bytes(payload))
+
+
+def check_edge_payloads(compare, rng):
+    for payload in edge_payloads():
+        compare.payload(payload)
+
+
+def check_random_payloads(compare, rng):
+    for _ in range(25_000):
+        compare.payload(random_payload(rng))
+    for _ in range(200):
+        payload = random_payload(rng)
+        for wrap in WRAPS:
+            compare.payload(payload + bytes(wrap))
+        compare.payload(rng.randbytes(rng.randrange(24, 300)))
+
+
+# ---- Command writer --------------------------------------------------------------------------
+
+# Each refusal that the writer can give for a payload, and accepted ones of each length.
+WRITER_PAYLOADS = tuple(
+    bytes.fromhex(text)
+    for text in (
+        "",
+        "05 15",
+        "01",
+        "81 00",
+        "01 17",
+        "03 25",
+        "02 15 03 00",
+        "01 16 00",
+        "04 18 28 01 02 03 04 05",
+        "02 15 07",
+        "04 18 27 00 00 00 00 01",
+        "81",
+        "01 15",
+        "02 13 EC",
+        "03 18 00",
+        "04 10 FF FF FF FF",
+        "02 16 02 04 10 01 80 00",
+        "04 18 27 01 02 03 04 05",
+    )
+)
+WAKES = (*range(19), 2**8, 2**8 + 16, 2**16, 2**32, 2**32 + 1, 2**63, 2**64 - 1)
+
+
+def check_writer(compare, rng):
+    for payload, wake, size in itertools.product(WRITER_PAYLOADS, WAKES, range(41)):
+        compare.encode(payload, wake, rng.randbytes(size))
+    for payload, wake, wrap in itertools.product(WRITER_PAYLOADS, (0, 16, 17), WRAPS):
+        compare.encode(payload, wake, rng.randbytes(wrap))
+        compare.encode(payload + bytes(wrap), wake, rng.randbytes(27))
+    for _ in range(8000):
+        wake = rng.choice((rng.randrange(19), rng.randrange(2**64)))
+        compare.encode(random_payload(rng), wake, rng.randbytes(rng.randrange(20, 60)))
+
+
+def check_written_frames(compare, rng):
+    """What the writer writes, the module reads as that payload."""
+    for payload, wake in itertools.product(edge_payloads(), (0, 1, 16)):
+        if reference.validate_payload(payload) != 0:
+            continue
+        refusal, length, buffer = compare.encode(payload, wake, rng.randbytes(27))
+        refusal, start, size = compare.frame(buffer[:length])
+        read = refusal, buffer[start : start + size]
+        compare.same("a frame read back", (0, payload), read, payload=payload, wake=wake)
+
+
+# ---- Lines of the replay program -------------------------------------------------------------
+
+
+def line_of(block):
+    return reference.format_block(block).rstrip("\n").encode("ascii")
+
+
+def check_lines_of_blocks(compare, rng):
+    """Random blocks of 0 to 205 bytes as lines, with a buffer too short, right and longer."""
+    for size in range(206):
+        for room in {0, max(size - 1, 0), size, size + 1, 200, 210}:
+            compare.read_line(line_of(rng.randbytes(size)), rng.randbytes(room))
+
+
+def check_line_buffers(compare, rng):
+    """Buffers of every size, with lines of a block, and lines that are wrong at the end alone."""
+    lines = [line_of(rng.randbytes(size)) for size in (0, 1, 2, 22, 39, 40, 41, 199, 200, 201)]
+    lines += [line + wrong for line in lines for wrong in (b" ", b"0", b" 0", b" 0g", b"\r")]
+    for line, size in itertools.product(lines, (*range(41), 199, 200, 201)):
+        compare.read_line(line, rng.randbytes(size))
+
+
+def check_long_lines(compare, rng):
+    text = line_of(rng.randbytes(300))
+    long_text = line_of(rng.randbytes(2**16 // 3 + 300))
+    for size in (*range(590, 611), 2**8, 2**16):
+        for line in (text[:size], text[:599].ljust(size), b" " * size, b"A" * size):
+            for room in (199, 200, 201, 300):
+                compare.read_line(line, rng.randbytes(room))
+    for size in range(2**16, 2**16 + 600):
+        compare.read_line(long_text[:size], rng.randbytes(200))
+
+
+def check_changed_lines(compare, rng):
+    """A good line with each character replaced by each byte, left out, doubled or with another
+    before it; then every short line over a few characters."""
+    good = b"80 55 8B 0F 9A"
+    for place in range(len(good) + 1):
+        before, here, after = good[:place], good[place : place + 1], good[place + 1 :]
+        compare.read_line(before + after, rng.randbytes(6))
+        compare.read_line(before + here + here + after, rng.randbytes(6))
+        for byte in range(256):
+            compare.read_line(before + bytes([byte]) + after, rng.randbytes(6))
+        for byte in b" 0Fa\r\n\t\x00":
+            compare.read_line(before + bytes([byte]) + here + after, rng.randbytes(6))
+    for size in range(7):
+        for letters in itertools.product(b"0A f", repeat=size):
+            compare.read_line(bytes(letters), rng.randbytes(3))
+    for _ in range(5000):
+        letters = rng.choices(b"0123456789ABCDEF    ag\r", k=rng.randrange(20))
+        compare.read_line(bytes(letters), rng.randbytes(rng.randrange(9)))
+
+
+def check_written_blocks(compare, rng):
+    for size in (*range(206), 300):
+        text = 3 * size if size else 1
+        rooms = range(text + 4) if size < 12 else {0, 1, *range(text - 4, text + 5)}
+        for room in rooms:
+            compare.write_block(rng.randbytes(size), rng.randbytes(room))
+    for byte in range(256):
+        compare.write_block(bytes([byte]), rng.randbytes(4))
+    for wrap in WRAPS:
+        compare.write_block(b"\x80", rng.randbytes(wrap))
+        compare.write_block(bytes(wrap // 4), rng.randbytes(2))
+
+
+def check_written_words(compare, rng):
+    for room in (*range(20), *WRAPS):
+        compare.write_not_hex(rng.randbytes(room))
+        for refusal in range(256):
+            compare.write_refused(refusal, rng.randbytes(room))
+
+
+# ---- The run ---------------------------------------------------------------------------------
+
+CHECKS = (
+    ("examples", check_examples),
+    ("example lines", check_example_lines),
+    ("readouts", check_readout),
+    ("percents", check_percent),
+    ("frames by wake count and length byte", check_frame_lengths),
+    ("damaged frames", check_frame_damage),
+    ("random blocks", check_frame_random),
+    ("item list and indexes", check_items),
+    ("values", check_values),
+    ("values of analog inputs", check_analog_input_values),
+    ("values of slots", check_slot_values),
+    ("payloads of at most two bytes", check_short_payloads),
+    ("payloads by command, item, length, index, value", check_edge_payloads),
+    ("random payloads", check_random_payloads),
+    ("command writer", check_writer),
+    ("written frames read back", check_written_frames),
+    ("lines of random blocks", check_lines_of_blocks),
+    ("lines by buffer size", check_line_buffers),
+    ("long lines", check_long_lines),
+    ("changed lines", check_changed_lines),
+    ("printed blocks", check_written_blocks),
+    ("printed words", check_written_words),
+)
+
+
+def compare_all(library):
+    """Runs every check; the number of calls that agreed."""
+    compare = Comparison(library)
+    for name, check in CHECKS:
+        before = compare.calls
+        check(compare, random.Random(SEED))
+        print(f"{name}: {compare.calls - before} calls")
+    return compare.calls
+
+
+def main():
+    with tempfile.TemporaryDirectory() as folder:
+        calls = compare_all(load(build(folder)))
+    print(f"{calls} calls agreed")
+
+
+if __name__ == "__main__":
+    try:
+        main()
+    except Problem as problem:
+        sys.exit(f"leaves: {problem}")
