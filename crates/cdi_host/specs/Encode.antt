@@ -11,7 +11,7 @@ use Rattle.cdi_frame.specs.Frame.{wakeLimit, readFrame, payloadIn}
 use Rattle.cdi_command.specs.declared.Command.{Command}
 use Rattle.cdi_command.specs.Command.{validatePayload}
 
--- the longest frame: 16 wake bytes, the four bytes around them and a payload of 8 bytes
+-- the longest frame: 16 wake bytes, the three bytes around them and a payload of 8 bytes
 abbrev pub frameBufferMin : ℕ
 frameBufferMin = 27
 

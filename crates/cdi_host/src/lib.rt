@@ -20,7 +20,7 @@ use refusal::NONE;
 use refusal::Outcome;
 use refusal::WAKE_COUNT_OVER;
 
-// The longest command has 16 wake bytes and 8 payload bytes.
+// The longest frame has 16 wake bytes, three bytes around them and 8 payload bytes.
 pub const FRAME_BUFFER_MIN: usize = 27;
 
 // A refusal writes nothing.
