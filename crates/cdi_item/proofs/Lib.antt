@@ -1,5 +1,4 @@
 pub mod Scan
-pub mod Signed
 pub mod Consistent
 pub mod Determined
 pub mod Trimmed

@@ -1,4 +1,5 @@
 pub mod Bytes
 pub mod Choice
 pub mod Rest
+pub mod Signed
 pub mod Written
