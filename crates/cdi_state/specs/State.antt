@@ -1,0 +1,88 @@
+-- Document 01, "Items": what the state's parts are as bytes, the defaults and the factory state.
+use Prim.Native.Nat.{ℕ, _+_, _*_, _<_}
+use mathlib.Core.Path.{_≡_}
+use mathlib.Core.List.{List, [], _∷_, _++_}
+use lib.IntN.{ℤ}
+use lib.ListN.{length, getD, replicate}
+use Rattle.logic.specs.Signed.{signed}
+use Rattle.cdi_state.specs.declared.Slot.{Slot}
+use Rattle.cdi_state.specs.declared.AnalogInput.{AnalogInput}
+use Rattle.cdi_state.specs.declared.Settings.{Settings}
+use Rattle.cdi_state.specs.declared.HardwareSelection.{HardwareSelection}
+use Rattle.cdi_state.specs.declared.ModuleState.{ModuleState}
+
+-- the five bytes of a row of item 16, and of item 18
+abbrev pub inputBytes : AnalogInput → List ℕ
+inputBytes x = x .channel ∷ x .readings ∷ x .reference ∷ x .offset
+
+abbrev pub slotBytes : Slot → List ℕ
+slotBytes s = s .address ++ s .mask ∷ []
+
+-- an input's offset: two bytes, the high one first, in two's complement (house)
+abbrev pub inputOffset : AnalogInput → ℤ
+inputOffset x = signed 65536 (getD (x .offset) 0 0 * 256 + getD (x .offset) 1 0)
+
+-- what stands for a row past the end of an array
+abbrev pub noInput : AnalogInput
+noInput = record { channel = 0; readings = 0; reference = 0; offset = [] }
+
+abbrev pub noSlot : Slot
+noSlot = record { address = []; mask = 0 }
+
+-- Set Default's values
+abbrev pub defaultInput : AnalogInput
+defaultInput = record { channel = 0xFF; readings = 0x01; reference = 0; offset = replicate 2 0 }
+
+abbrev pub defaultSettings : Settings
+defaultSettings = record {
+  «line_mask» = 0;
+  «latch_mask» = 0;
+  «tx_power» = 0;
+  «control_source» = 0x06;
+  «message_select» = 0;
+  «analog_inputs» = replicate 2 defaultInput;
+  «interrupt_mask» = 0;
+}
+
+abbrev pub emptySlot : Slot
+emptySlot = record { address = replicate 4 0; mask = 0 }
+
+-- both RSSI bytes where no signal was measured
+abbrev pub noRssi : List ℕ
+noRssi = replicate 2 0x80
+
+-- the settings as Set Default leaves them, RSSI 80 80, and every other byte 00
+abbrev pub factoryState : ModuleState
+factoryState = record {
+  name = replicate 17 0;
+  firmware = replicate 3 0;
+  serial = replicate 4 0;
+  address = replicate 4 0;
+  nv = defaultSettings;
+  working = defaultSettings;
+  slots = replicate 40 emptySlot;
+  lines = replicate 2 0;
+  rssi = noRssi;
+  ladj = 0;
+  events = 0;
+  flags = 0;
+  hardware = record { power = 0; «line_mask» = 0; «latch_mask» = 0 };
+}
+
+-- The lengths of the arrays of structs: a list of a definition can have any, a state of a program has these.
+pub record ArrayLengths (s : ModuleState) : Type 0 where
+  pub nv-inputs : length (s .nv .«analog_inputs») ≡ 2
+  pub working-inputs : length (s .working .«analog_inputs») ≡ 2
+  pub slot-count : length (s .slots) ≡ 40
+
+-- the lengths of the arrays of bytes
+pub record FieldLengths (s : ModuleState) : Type 0 where
+  pub name-length : length (s .name) ≡ 17
+  pub firmware-length : length (s .firmware) ≡ 3
+  pub serial-length : length (s .serial) ≡ 4
+  pub address-length : length (s .address) ≡ 4
+  pub lines-length : length (s .lines) ≡ 2
+  pub rssi-length : length (s .rssi) ≡ 2
+  pub nv-offset-length : (i : ℕ) → i < 2 → length (getD (s .nv .«analog_inputs») i noInput .offset) ≡ 2
+  pub working-offset-length : (i : ℕ) → i < 2 → length (getD (s .working .«analog_inputs») i noInput .offset) ≡ 2
+  pub slot-address-length : (i : ℕ) → i < 40 → length (getD (s .slots) i noSlot .address) ≡ 4

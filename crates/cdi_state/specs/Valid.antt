@@ -1,0 +1,47 @@
+-- Document 01, "Items", the valid state (01's "sound"). What an item accepts stands in the item list's crate alone.
+use Prim.Native.Nat.{ℕ}
+use mathlib.Core.List.{List, [], _∷_}
+use mathlib.Core.Bool.{Bool, true, false, _&&_, _||_}
+use lib.Bits.{bitAnd}
+use lib.Dec.{eqb, leb}
+use lib.ListN.{getD}
+use Rattle.cdi_item.specs.Items.{txPower, controlSource, messageSelect, analogInput, pairedModule}
+use Rattle.cdi_item.specs.Values.{acceptedValue}
+use Rattle.cdi_state.specs.declared.Slot.{Slot}
+use Rattle.cdi_state.specs.declared.AnalogInput.{AnalogInput}
+use Rattle.cdi_state.specs.declared.Settings.{Settings}
+use Rattle.cdi_state.specs.declared.ModuleState.{ModuleState}
+use Rattle.cdi_state.specs.State.{inputBytes, slotBytes, noInput}
+
+-- a name has a 00
+unfoldable pub hasZero : List ℕ → Bool
+hasZero [] = false
+hasZero (b ∷ bs) = eqb b 0 || hasZero bs
+
+abbrev pub validInput : AnalogInput → Bool
+validInput x = acceptedValue analogInput (inputBytes x)
+
+-- one copy of the settings: items 13, 14, 15 and both rows of 16 hold accepted values
+abbrev pub validSettings : Settings → Bool
+validSettings s =
+    (((acceptedValue txPower (s .«tx_power» ∷ []) &&
+    acceptedValue controlSource (s .«control_source» ∷ [])) &&
+    acceptedValue messageSelect (s .«message_select» ∷ [])) &&
+    validInput (getD (s .«analog_inputs») 0 noInput)) &&
+    validInput (getD (s .«analog_inputs») 1 noInput)
+
+abbrev pub validSlot : Slot → Bool
+validSlot s = acceptedValue pairedModule (slotBytes s)
+
+unfoldable pub validSlots : List Slot → Bool
+validSlots [] = true
+validSlots (s ∷ ss) = validSlot s && validSlots ss
+
+-- the mode, bits 0 to 2, is at most 4, and bits 3, 6 and 7 are zero
+abbrev pub validFlags : ℕ → Bool
+validFlags flags = leb (bitAnd flags 0x07) 4 && eqb (bitAnd flags 0xC8) 0
+
+unfoldable pub isValid : ModuleState → Bool
+isValid s =
+    (((hasZero (s .name) && validSettings (s .nv)) && validSettings (s .working)) && validSlots (s .slots)) &&
+    validFlags (s .flags)
