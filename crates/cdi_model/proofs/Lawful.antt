@@ -1,0 +1,117 @@
+-- The model keeps what the theorem asks of it: no step changes validity, and beside validity a step goes by the cells that the table
+-- names and changes no other.
+-- Assumes nothing.
+use mathlib.Core.Path.{_≡_, refl, sym, ap, ap₂, _∙_}
+use mathlib.Core.Bool.{true, false, cond, _&&_, _||_, and-false, and-eq-true-iff}
+use lib.Dec.{ltb}
+use lib.ListN.{length}
+use Rattle.logic.proofs.Choice.{choice, by-cases}
+use Rattle.sequence.specs.Model.{Lawful, next, accepts, touches}
+use Rattle.cdi_model.specs.Cells.{nv, working, lineMask, latchMask, txPower, controlSource, interruptMask, setting, events, flags, hardwarePower, hardwareLineMask, hardwareLatchMask, Cell, stored, single, hasWorking, isKey, isCell, same}
+use Rattle.cdi_model.specs.Step.{Step, powerUp, command}
+use Rattle.cdi_model.specs.Action.{Action, read, readNv, readStatus, write, program, setDefault, eraseAll}
+use Rattle.cdi_model.specs.Table.{Decision, refuse, execute, executePowerUp, isAccepted, actionReads, powerUpStores, reads, stores}
+use Rattle.cdi_model.specs.Model.{Cells, isValid, responseBufferMin, decide, gives, shown, actionValue, valueRead, resultOf, model}
+use Rattle.cdi_model.proofs.Cells.{same-refl}
+use Rattle.cdi_model.proofs.Checked.{Checked, CheckedDecision, step-checked}
+use Rattle.cdi_model.proofs.Validity.{valid-takes, takes-valid}
+use Rattle.cdi_model.proofs.Stored.{next-takes}
+
+-- ---- validity
+-- on an invalid state every step is refused
+pub invalid-refused : (s : Cells) (x : Step) → isValid s ≡ false → isAccepted (decide s x) ≡ false
+unfolding decide
+invalid-refused s powerUp e = rw e
+invalid-refused s (command block response) e =
+    choice (λ d. isAccepted d ≡ false) (ltb (length response) responseBufferMin) (λ _. refl) (λ _. rw e)
+
+-- what is refused leaves validity
+refused-kept : (s : Cells) (d : Decision) → isAccepted d ≡ false → isValid (λ c. cond (stores d c) (gives s d c) (s c)) ≡ isValid s
+unfolding stores
+refused-kept s (refuse n) e = refl
+refused-kept s (execute payload a) e = cc
+refused-kept s executePowerUp e = cc
+
+-- no step changes validity
+pub validity-kept : (s : Cells) (x : Step) → isValid (next model s x) ≡ isValid s
+validity-kept s x =
+    by-cases (isValid s)
+    (λ e. takes-valid (next model s x) (next-takes s (decide s x) (step-checked s x) (valid-takes s e)) ∙ sym e)
+    (λ e. refused-kept s (decide s x) (invalid-refused s x e))
+
+-- ---- beside validity, what the table names
+-- the cells agree where the decision reads or stores
+abbrev AgreeOn : Decision → Cells → Cells → Type 0
+AgreeOn d s t = (c : Cell) → reads d c || stores d c ≡ true → t c ≡ s c
+
+module _ (s t : Cells) where
+  -- an action reads the same value from cells that agree where it reads, ...
+  action-value : (a : Action) → Checked a → ((c : Cell) → isCell c && actionReads a c ≡ true → t c ≡ s c) → actionValue t a ≡ actionValue s a
+  action-value (read d) k h = ap (shown d) (h d (and-eq-true-iff (isCell d) (same d d) .1 (k, same-refl d)))
+  action-value (readNv d) k h = ap (shown d) (h d (and-eq-true-iff (isCell d) (same d d) .1 (k, same-refl d)))
+  action-value readStatus k h =
+      rw (
+        h (single flags) refl,
+        h (single events) refl,
+        h (single hardwarePower) refl,
+        h (single hardwareLineMask) refl,
+        h (single hardwareLatchMask) refl,
+        h (stored working (setting lineMask)) refl,
+        h (stored working (setting latchMask)) refl,
+        h (stored working (setting txPower)) refl,
+        h (stored working (setting controlSource)) refl,
+        h (stored working (setting interruptMask)) refl,
+      )
+  action-value (write j v) k h = refl
+  action-value (program j v) k h = refl
+  action-value setDefault k h = refl
+  action-value eraseAll k h = refl
+
+  -- ... and so does a step
+  value-framed : (d : Decision) → CheckedDecision d → AgreeOn d s t → valueRead t d ≡ valueRead s d
+  unfolding valueRead reads
+  value-framed (refuse n) k h = refl
+  value-framed (execute payload a) k h = action-value a k (λ c p. h c (rw p))
+  value-framed executePowerUp k h = refl
+
+  -- a step gives the same values: a power-up gives a working copy what it reads in the other
+  gives-framed : (d : Decision) → AgreeOn d s t → (c : Cell) → stores d c ≡ true → gives t d c ≡ gives s d c
+  unfolding gives reads stores
+  gives-framed (refuse n) h c e = refl
+  gives-framed (execute payload a) h c e = refl
+  gives-framed executePowerUp h (stored nv k) e = cc (and-false (isKey k))
+  gives-framed executePowerUp h (stored working k) e =
+      let p = and-eq-true-iff (isKey k && hasWorking k) (powerUpStores (stored working k)) .0 e .0 in
+      h (stored nv k) (rw p)
+  gives-framed executePowerUp h (single x) e = refl
+
+-- a decision knows no more of the cells than their validity
+decide-framed : (s t : Cells) (x : Step) → isValid t ≡ isValid s → decide t x ≡ decide s x
+unfolding decide
+decide-framed s t powerUp e = rw e
+decide-framed s t (command block response) e = rw e
+
+-- a refusal reads no cell and stores in none, ...
+refused-none : (d : Decision) → isAccepted d ≡ false → (c : Cell) → reads d c || stores d c ≡ false
+unfolding reads stores
+refused-none (refuse n) e c = refl
+refused-none (execute payload a) e c = cc
+refused-none executePowerUp e c = cc
+
+-- ... and so does a step that is not accepted
+pub refused-touches-none : (s : Cells) (x : Step) → accepts model s x ≡ false → (c : Cell) → touches model s x c ≡ false
+refused-touches-none s x e c = refused-none (decide s x) e c
+
+-- the model is lawful, with validity as all that a decision knows of other cells
+pub lawful : Lawful model
+lawful = record {
+  class = isValid;
+  class-kept = validity-kept;
+  framed = λ s t x e h.
+      let d : decide t x ≡ decide s x = decide-framed s t x e in (
+        d,
+        ap₂ (resultOf x) d (ap (valueRead t) d ∙ value-framed s t (decide s x) (step-checked s x) h),
+        λ c p. ap (λ (d : Decision). gives t d c) d ∙ gives-framed s t (decide s x) h c p,
+      );
+  refused-touches-none = refused-touches-none;
+}

@@ -1,0 +1,10 @@
+pub mod Cells
+pub mod Values
+pub mod Keys
+pub mod Checked
+pub mod Validity
+pub mod Stored
+pub mod Lawful
+pub mod Apart
+pub mod Tight
+pub mod Examples
