@@ -1,0 +1,301 @@
+-- The module follows the reference model: it decides alike on every step, and the cells, the result and the array lengths after a step
+-- are the model's; and a state is no more than its cells.
+-- Assumes nothing.
+use Prim.Native.Nat.{ℕ, zero, suc}
+use mathlib.Core.Path.{_≡_, refl, sym, ap, ap₂, _∙_}
+use mathlib.Core.List.{List, [], _∷_, _++_}
+use mathlib.Core.Bool.{Bool, true, false, cond, not, _&&_, _||_, and-eq-true-iff, true≢false}
+use native.Mathlib.Omega.{arith}
+use lib.Dec.{eqb, ltb, leb}
+use lib.ListN.{length, getD, drop, length-set, length-replicate, List·getD-eq-default}
+use lib.Seq.{ext-getD}
+use borrow.Author.Tests.{eqb-true, ltb-false, le-leb, leb-false}
+use Rattle.logic.proofs.Choice.{choice, by-cases, implied}
+use Rattle.logic.specs.Written.{written}
+use Rattle.refusal.specs.Refusal.{Result, accepted, refused, andThen}
+use Rattle.cdi_frame.specs.declared.Span.{Span}
+use Rattle.cdi_frame.specs.Frame.{wakeLimit, readFrame, payloadIn}
+use Rattle.cdi_frame.specs.Layout.{responseFrame}
+use Rattle.cdi_item.specs.declared.Item.{Item}
+use Rattle.cdi_item.specs.Items as item
+use Rattle.cdi_item.specs.Consistent.{every}
+use Rattle.cdi_item.proofs.Consistent.{found}
+use Rattle.cdi_command.specs.declared.Index.{Index}
+use Rattle.cdi_command.specs.declared.Index.the-variants.{Slot as SlotAt, Input as InputAt}
+use Rattle.cdi_command.specs.declared.Command.{Command}
+use Rattle.cdi_command.specs.declared.Command.the-variants.{Read, ReadIndexed, ReadNv, ReadNvIndexed, Write, WriteIndexed, Program, ProgramIndexed, SetDefault, EraseAll}
+use Rattle.cdi_command.specs.Command.{validatePayload}
+use Rattle.cdi_command.specs.Payload.{commandPayload, responsePayload, WellFormed, Permitted}
+use Rattle.cdi_command.proofs.Accepted.{accepted-well-formed, accepted-payload}
+use Rattle.cdi_state.specs.declared.Slot.{Slot}
+use Rattle.cdi_state.specs.declared.AnalogInput.{AnalogInput}
+use Rattle.cdi_state.specs.declared.Settings.{Settings}
+use Rattle.cdi_state.specs.declared.ModuleState.{ModuleState}
+use Rattle.cdi_state.specs.State.{inputBytes, slotBytes, noSlot, noInput, emptySlot, ArrayLengths}
+use Rattle.cdi_model.specs.Cells.{nv, working, Setting, lineMask, latchMask, txPower, controlSource, messageSelect, interruptMask, Key, setting, input, slot, address, Single, name, firmware, serial, lines, rssi, ladj, events, flags, hardwarePower, hardwareLineMask, hardwareLatchMask, Cell, stored, single, isKey, isCell}
+use Rattle.cdi_model.specs.Step.{Step, powerUp, command, responded}
+use Rattle.cdi_model.specs.Action.{Source, held, one, status, readFrom, readNvFrom, sourceOf, actionOf}
+use Rattle.cdi_model.specs.Table.{Decision, refuse, execute, executePowerUp, stores}
+use Rattle.cdi_model.specs.Model as theirs
+use Rattle.cdi_model.specs.Model.{gives, model}
+use Rattle.cdi_model.proofs.Checked.{accepted-checked}
+use Rattle.sequence.specs.Model.{next}
+use Rattle.sequence.specs.Machine.{Follows}
+use Rattle.cdi_module.specs.Value.{inputAt, valueRead}
+use Rattle.cdi_module.specs.Store.{withSettings, withAddress, addressFrom, settingStored, inputFrom, inputStored, slotFrom, stateAfter, stateAtPowerUp}
+use Rattle.cdi_module.specs.Module as own
+use Rattle.cdi_module.specs.Machine.{settingHeld, singleHeld, cells, machine}
+use Rattle.cdi_module.proofs.Views.{inputs-length}
+use Rattle.cdi_module.proofs.Shown.{value-agrees}
+use Rattle.cdi_module.proofs.Validity.{validity-agrees}
+use Rattle.cdi_module.proofs.CellsAfter.{command-cells, power-up-cells}
+
+-- ---- decisions
+-- what holds of both sides of two choices by one test
+both : {A B : Type 0} (P : A → B → Type 0) (t : Bool) {a b : A} {c d : B} → P a c → P b d → P (cond t a b) (cond t c d)
+both P true p q = p
+both P false p q = q
+
+-- what holds of equal refusals, of a command and its action, and of power-ups, holds of the two decisions on any step
+module _ (P : own.Decision → Decision → Type 0)
+    (on-refuse : (n : ℕ) → P (own.refuse n) (refuse n))
+    (on-execute : (payload : List ℕ) (c : Command) → validatePayload payload ≡ accepted c → P (own.execute c) (execute payload (actionOf c)))
+    (on-power-up : P own.executePowerUp executePowerUp)
+  where
+    by-payload : (payload : List ℕ) (r : Result Command) → validatePayload payload ≡ r → P (own.decided r) (theirs.decideCommand payload r)
+    by-payload payload (accepted c) e = on-execute payload c e
+    by-payload payload (refused n) e = on-refuse n
+
+    by-frame : (block : List ℕ) (f : Result Span)
+        → P (own.decided (andThen f (λ span. validatePayload (payloadIn block span)))) (theirs.decideFrame block f)
+    unfolding theirs.decidePayload
+    by-frame block (accepted span) = by-payload (payloadIn block span) (validatePayload (payloadIn block span)) refl
+    by-frame block (refused n) = on-refuse n
+
+    decisions : (s : ModuleState) → ArrayLengths s → (x : Step) → P (own.decide s x) (theirs.decide (cells s) x)
+    unfolding own.decide own.commandIn theirs.decide theirs.decideBlock
+    decisions s h powerUp = rw (validity-agrees s h) (both P (theirs.isValid (cells s)) on-power-up (on-refuse _))
+    decisions s h (command block response) =
+        rw (validity-agrees s h)
+        (both P (ltb (length response) 22) (on-refuse _)
+        (both P (theirs.isValid (cells s)) (by-frame block (readFrame wakeLimit block)) (on-refuse _)))
+
+-- ---- results
+read-response : (x : Source) (payload v : List ℕ) → theirs.responsePayload payload (readFrom x) v ≡ (0xC1 ∷ drop 1 payload ++ v)
+unfolding theirs.responsePayload
+read-response (held k) payload v = refl
+read-response (one x) payload v = refl
+read-response status payload v = refl
+
+-- the status has no Read NV
+no-read-nv : Item → Bool
+no-read-nv x = not (item.permitted x item.N) || not (eqb (x .code) item.status)
+
+every-no-read-nv : every no-read-nv item.items ≡ true
+unfolding item.items no-read-nv
+every-no-read-nv = refl
+
+status-nv : (x : Item) → Permitted x item.N false → not (eqb (x .code) item.status) ≡ true
+unfolding no-read-nv
+status-nv x p = implied (item.permitted x item.N) _ (found no-read-nv every-no-read-nv (x .code) x (p .listed) .0) (p .permits)
+
+read-nv-response : (code : ℕ) → not (eqb code item.status) ≡ true → (payload v : List ℕ)
+    → theirs.responsePayload payload (readNvFrom (sourceOf code)) v ≡ (0xC2 ∷ drop 1 payload ++ v)
+unfolding theirs.responsePayload
+read-nv-response code e payload v =
+    let P : Source → Type 0 = λ x. theirs.responsePayload payload (readNvFrom x) v ≡ (0xC2 ∷ drop 1 payload ++ v) in
+    choice P (eqb code item.name) (λ _. refl)
+    (λ _. choice P (eqb code item.firmware) (λ _. refl)
+    (λ _. choice P (eqb code item.serial) (λ _. refl)
+    (λ _. choice P (eqb code item.lines) (λ _. refl)
+    (λ _. choice P (eqb code item.rssi) (λ _. refl)
+    (λ _. choice P (eqb code item.ladj) (λ _. refl)
+    (λ _. choice P (eqb code item.status) (λ f. cc)
+    (λ _. choice P (eqb code item.events) (λ _. refl) (λ _. refl))))))))
+
+-- the response's payload, of a command by its parts and of its action by the payload that was handed in
+payload-agrees : (c : Command) → WellFormed c → (v : List ℕ) → responsePayload c v ≡ theirs.responsePayload (commandPayload c) (actionOf c) v
+unfolding actionOf theirs.responsePayload
+payload-agrees (Read x) p v = sym (read-response (sourceOf (x .code)) (commandPayload (Read x)) v)
+payload-agrees (ReadIndexed x i) p v = refl
+payload-agrees (ReadNv x) p v = sym (read-nv-response (x .code) (status-nv x p) (commandPayload (ReadNv x)) v)
+payload-agrees (ReadNvIndexed x i) p v = refl
+payload-agrees (Write x w) p v = refl
+payload-agrees (WriteIndexed x i w) p v = refl
+payload-agrees (Program x w) p v = refl
+payload-agrees (ProgramIndexed x i w) p v = refl
+payload-agrees SetDefault p v = refl
+payload-agrees EraseAll p v = refl
+
+response-agrees : (s : ModuleState) (payload : List ℕ) (c : Command) → validatePayload payload ≡ accepted c
+    → own.responseTo s c ≡ responseFrame (theirs.responsePayload payload (actionOf c) (theirs.actionValue (cells s) (actionOf c)))
+response-agrees s payload c e =
+    ap responseFrame
+    (payload-agrees c (accepted-well-formed payload c e) (valueRead s c)
+    ∙ ap₂ (λ (p v : List ℕ). theirs.responsePayload p (actionOf c) v) (accepted-payload payload c e) (value-agrees s c))
+
+result-agrees : (s : ModuleState) (x : Step) → ArrayLengths s → own.resultOf s x ≡ model .result (cells s) x
+unfolding own.resultOf theirs.resultOf theirs.valueRead
+result-agrees s powerUp h =
+    decisions (λ d e. own.resultBy s powerUp d ≡ theirs.resultOf powerUp e (theirs.valueRead (cells s) e)) (λ n. refl) (λ p c e. refl) refl s h powerUp
+result-agrees s (command block response) h =
+    decisions (λ d e. own.blockResult s response d ≡ theirs.resultOf (command block response) e (theirs.valueRead (cells s) e))
+    (λ n. refl) (λ p c e. ap (theirs.respond response) (response-agrees s p c e)) refl s h (command block response)
+
+-- ---- array lengths
+same-lengths : (s t : ModuleState) → length (t .nv .«analog_inputs») ≡ length (s .nv .«analog_inputs»)
+    → length (t .working .«analog_inputs») ≡ length (s .working .«analog_inputs») → length (t .slots) ≡ length (s .slots)
+    → ArrayLengths s → ArrayLengths t
+same-lengths s t n w l h = record { nv-inputs = n ∙ h .nv-inputs; working-inputs = w ∙ h .working-inputs; slot-count = l ∙ h .slot-count }
+
+setting-inputs : (t : Settings) (code byte : ℕ) → length (settingStored t code byte .«analog_inputs») ≡ length (t .«analog_inputs»)
+unfolding settingStored
+setting-inputs t code byte = refl
+
+command-lengths : (s : ModuleState) (c : Command) → ArrayLengths s → ArrayLengths (stateAfter s c)
+command-lengths s (Read x) h = h
+command-lengths s (ReadIndexed x i) h = h
+command-lengths s (ReadNv x) h = h
+command-lengths s (ReadNvIndexed x i) h = h
+command-lengths s (Write x v) h = same-lengths s (stateAfter s (Write x v)) refl (setting-inputs (s .working) (x .code) (v .byte0)) refl h
+command-lengths s (WriteIndexed x (SlotAt i) v) h = h
+command-lengths s (WriteIndexed x (InputAt n) v) h =
+    same-lengths s (stateAfter s (WriteIndexed x (InputAt n) v)) refl (inputs-length (s .working) (n .0) (inputFrom v)) refl h
+command-lengths s (Program x v) h =
+    choice ArrayLengths (eqb (x .code) item.address) (λ _. same-lengths s (withAddress s (addressFrom v)) refl refl refl h)
+    (λ _. same-lengths s (withSettings s (settingStored (s .nv) (x .code) (v .byte0)) (settingStored (s .working) (x .code) (v .byte0)))
+    (setting-inputs (s .nv) (x .code) (v .byte0)) (setting-inputs (s .working) (x .code) (v .byte0)) refl h)
+command-lengths s (ProgramIndexed x (SlotAt i) v) h =
+    same-lengths s (stateAfter s (ProgramIndexed x (SlotAt i) v)) refl refl (length-set (s .slots) (i .0) (slotFrom v)) h
+command-lengths s (ProgramIndexed x (InputAt n) v) h =
+    same-lengths s (stateAfter s (ProgramIndexed x (InputAt n) v)) (inputs-length (s .nv) (n .0) (inputFrom v)) (inputs-length (s .working) (n .0) (inputFrom v)) refl h
+command-lengths s SetDefault h = record { nv-inputs = refl; working-inputs = refl; slot-count = h .slot-count }
+command-lengths s EraseAll h = record { nv-inputs = h .nv-inputs; working-inputs = h .working-inputs; slot-count = refl }
+
+power-up-lengths : (s : ModuleState) → ArrayLengths s → ArrayLengths (stateAtPowerUp s)
+power-up-lengths s h = record { nv-inputs = h .nv-inputs; working-inputs = h .nv-inputs; slot-count = h .slot-count }
+
+lengths-kept : (s : ModuleState) (x : Step) → ArrayLengths s → ArrayLengths (own.step s x)
+unfolding own.step
+lengths-kept s x h =
+    decisions (λ d e. ArrayLengths (own.stateBy s d)) (λ n. h) (λ p c e. command-lengths s c h) (power-up-lengths s h) s h x
+
+-- ---- cells
+-- a name past the end of an array names no cell, and holds the same in every state
+outside : Cell → List ℕ
+outside (stored nv (setting x)) = []
+outside (stored nv (input n)) = inputBytes noInput
+outside (stored nv (slot i)) = slotBytes noSlot
+outside (stored nv address) = []
+outside (stored working (setting x)) = []
+outside (stored working (input n)) = inputBytes noInput
+outside (stored working (slot i)) = []
+outside (stored working address) = []
+outside (single x) = []
+
+input-outside : (t : Settings) (n : ℕ) → length (t .«analog_inputs») ≡ 2 → isKey (input n) ≡ false → inputAt t n ≡ noInput
+input-outside t zero h e = refl
+input-outside t (suc i) h e =
+    by-cases (leb (suc i) 2)
+    (λ p. absurd (true≢false (sym (and-eq-true-iff (leb 1 (suc i)) (leb (suc i) 2) .1 (le-leb 1 (suc i) (omega arith), p)) ∙ e)))
+    (λ p. List·getD-eq-default (t .«analog_inputs») noInput {n = i} (omega (arith, leb-false (suc i) 2 p)))
+
+not-both : (a : Bool) → (a && true) ≡ false → a ≡ false
+not-both true e = e
+not-both false e = refl
+
+held-outside : (s : ModuleState) → ArrayLengths s → (c : Cell) → isCell c ≡ false → cells s c ≡ outside c
+unfolding cells outside
+held-outside s h (stored nv (setting x)) e = absurd (true≢false e)
+held-outside s h (stored nv (input n)) e = ap inputBytes (input-outside (s .nv) n (h .nv-inputs) e)
+held-outside s h (stored nv (slot i)) e =
+    ap slotBytes (List·getD-eq-default (s .slots) noSlot {n = i} (omega (arith, ltb-false i 40 e, h .slot-count)))
+held-outside s h (stored nv address) e = absurd (true≢false e)
+held-outside s h (stored working (setting x)) e = absurd (true≢false e)
+held-outside s h (stored working (input n)) e = ap inputBytes (input-outside (s .working) n (h .working-inputs) (not-both (isKey (input n)) e))
+held-outside s h (stored working (slot i)) e = refl
+held-outside s h (stored working address) e = refl
+held-outside s h (single x) e = absurd (true≢false e)
+
+-- what holds of the cells that there are holds of every name
+everywhere : (s t : ModuleState) → ArrayLengths s → ArrayLengths t → (c : Cell) (stored-there : Bool) (v : List ℕ)
+    → (isCell c ≡ true → cells t c ≡ cond stored-there v (cells s c)) → cells t c ≡ cond (isCell c && stored-there) v (cells s c)
+everywhere s t h g c b v there =
+    by-cases (isCell c) (λ e. rw e (there e)) (λ e. rw e (held-outside t g c e ∙ sym (held-outside s h c e)))
+
+cells-agree : (s : ModuleState) (x : Step) → ArrayLengths s → (c : Cell) → cells (own.step s x) c ≡ next model (cells s) x c
+unfolding own.step stores gives
+cells-agree s x h c =
+    decisions (λ d e. cells (own.stateBy s d) c ≡ cond (stores e c) (gives (cells s) e c) (cells s c)) (λ n. refl)
+    (λ p d e. everywhere s (stateAfter s d) h (command-lengths s d h) c _ _ (command-cells s h d (accepted-checked p d e) c))
+    (everywhere s (stateAtPowerUp s) h (power-up-lengths s h) c _ _ (λ _. power-up-cells s c)) s h x
+
+-- ---- a state is no more than its cells
+input-whole : (a b : AnalogInput) → inputBytes a ≡ inputBytes b → a ≡ b
+input-whole a b e =
+    let at : (n : ℕ) → getD (inputBytes a) n 0 ≡ getD (inputBytes b) n 0 = λ n. ap (λ (l : List ℕ). getD l n 0) e in
+    let rest : a .offset ≡ b .offset = ap (drop 3) e in
+    λ i. record { channel = at 0 i; readings = at 1 i; reference = at 2 i; offset = rest i }
+
+settings-whole : (t u : Settings) → length (t .«analog_inputs») ≡ length (u .«analog_inputs»)
+    → ((x : Setting) → (settingHeld t x ∷ []) ≡ (settingHeld u x ∷ [])) → ((n : ℕ) → inputBytes (inputAt t n) ≡ inputBytes (inputAt u n)) → t ≡ u
+settings-whole t u h byte row =
+    let at : (x : Setting) → settingHeld t x ≡ settingHeld u x = λ x. ap (λ (l : List ℕ). getD l 0 0) (byte x) in
+    let rows : t .«analog_inputs» ≡ u .«analog_inputs» =
+    ext-getD noInput (t .«analog_inputs») (u .«analog_inputs») h (λ i l. input-whole _ _ (row (suc i))) in
+    λ i. record {
+      «line_mask» = at lineMask i;
+      «latch_mask» = at latchMask i;
+      «tx_power» = at txPower i;
+      «control_source» = at controlSource i;
+      «message_select» = at messageSelect i;
+      «analog_inputs» = rows i;
+      «interrupt_mask» = at interruptMask i;
+    }
+
+-- two lists that end in one byte each are equal where their fronts and those bytes are
+ends : (a b : List ℕ) (x y : ℕ) → a ++ x ∷ [] ≡ b ++ y ∷ [] → (a ≡ b) × (x ≡ y)
+ends [] [] x y e = (refl, cc)
+ends [] (c ∷ []) x y e = absurd (omega (arith, ap length e))
+ends [] (c ∷ d ∷ b) x y e = absurd (omega (arith, ap length e))
+ends (c ∷ []) [] x y e = absurd (omega (arith, ap length e))
+ends (c ∷ d ∷ a) [] x y e = absurd (omega (arith, ap length e))
+ends (c ∷ a) (d ∷ b) x y e =
+    let t : a ++ x ∷ [] ≡ b ++ y ∷ [] = cc in
+    let k : c ≡ d = cc in
+    let ih : (a ≡ b) × (x ≡ y) = ends a b x y t in
+    let l : a ≡ b = ih .0 in
+    (cc, ih .1)
+
+slot-whole : (a b : Slot) → slotBytes a ≡ slotBytes b → a ≡ b
+slot-whole a b e =
+    let p = ends (a .address) (b .address) (a .mask) (b .mask) e in
+    λ i. record { address = p .0 i; mask = p .1 i }
+
+cells-are-all : (s t : ModuleState) → ArrayLengths s → ArrayLengths t → ((c : Cell) → cells s c ≡ cells t c) → s ≡ t
+unfolding cells
+cells-are-all s t h g e =
+    let n = settings-whole (s .nv) (t .nv) (h .nv-inputs ∙ sym (g .nv-inputs)) (λ x. e (stored nv (setting x))) (λ i. e (stored nv (input i))) in
+    let w =
+    settings-whole (s .working) (t .working) (h .working-inputs ∙ sym (g .working-inputs))
+    (λ x. e (stored working (setting x))) (λ i. e (stored working (input i))) in
+    let l : s .slots ≡ t .slots = ext-getD noSlot (s .slots) (t .slots) (h .slot-count ∙ sym (g .slot-count)) (λ i _. slot-whole _ _ (e (stored nv (slot i)))) in
+    let byte : (x : Single) → getD (singleHeld s x) 0 0 ≡ getD (singleHeld t x) 0 0 = λ x. ap (λ (v : List ℕ). getD v 0 0) (e (single x)) in
+    λ i. record {
+      name = e (single name) i;
+      firmware = e (single firmware) i;
+      serial = e (single serial) i;
+      address = e (stored nv address) i;
+      nv = n i;
+      working = w i;
+      slots = l i;
+      lines = e (single lines) i;
+      rssi = e (single rssi) i;
+      ladj = byte ladj i;
+      events = byte events i;
+      flags = byte flags i;
+      hardware = record { power = byte hardwarePower i; «line_mask» = byte hardwareLineMask i; «latch_mask» = byte hardwareLatchMask i };
+    }
+
+pub follows : Follows model machine
+follows = record { admissible-kept = lengths-kept; cells-agree = cells-agree; result-agrees = result-agrees; cells-are-all = cells-are-all }

@@ -1,0 +1,11 @@
+pub mod Stores
+pub mod Values
+pub mod Responses
+pub mod Lengths
+pub mod Views
+pub mod Shown
+pub mod Validity
+pub mod CellsAfter
+pub mod Follows
+pub mod Theorem
+pub mod Within

@@ -1,0 +1,215 @@
+-- Each command has its form of the response, and the function that writes it.
+-- Assumes nothing.
+use Prim.Native.Nat.{_≤_}
+use mathlib.Core.Path.{_≡_, ap}
+use mathlib.Core.Bool.{false}
+use mathlib.Core.List.{_∷_}
+use lib.ListN.{length}
+use Rattle.cdi_command.specs.Payload.{payloadMax, responsePayload, ackResponse, noError}
+use Rattle.cdi_module.specs.Value.{valueRead}
+use Rattle.cdi_module.proofs.Responses.{isRead, echoed, echo-short}
+use borrow.Author.Needs.{needs}
+use Rattle.cdi_module.proofs.response.put_payload.Statement.{statement}
+use Rattle.cdi_module.proofs.response.put_payload.Tie as tie
+
+enum-known-command : tie.Need-enum-known-command
+enum-known-command c = search needs
+
+put-read-requires : tie.Need-put-read-requires
+put-read-requires c κs = search needs
+
+enum-known-command-2 : tie.Need-enum-known-command-2
+enum-known-command-2 c = search needs
+
+put-read-row-requires : tie.Need-put-read-row-requires
+put-read-row-requires c κs =
+    let i = c .before .before in
+    (rw (i .command2 .given .1) at (i .before .before .before .before .pre .0 .0) .1, search needs)
+
+enum-known-command-3 : tie.Need-enum-known-command-3
+enum-known-command-3 c = search needs
+
+put-read-requires-2 : tie.Need-put-read-requires-2
+put-read-requires-2 c κs = search needs
+
+enum-known-command-4 : tie.Need-enum-known-command-4
+enum-known-command-4 c = search needs
+
+put-read-row-requires-2 : tie.Need-put-read-row-requires-2
+put-read-row-requires-2 c κs =
+    let i = c .before .before in
+    (rw (i .command4 .given .1) at (i .before .before .before .before .pre .0 .0) .1, search needs)
+
+short : (z : tie.Start) → length (z .args .payload .now) ≤ payloadMax
+short z = echo-short (z .args .command) (z .args .payload .now) (z .pre .0 .1)
+
+enum-told : tie.Need-enum-told
+enum-told c = search needs
+
+put-ack-requires : tie.Need-put-ack-requires
+put-ack-requires c κs = (short (c .before .before .before .before .before), search needs)
+
+enum-told-2 : tie.Need-enum-told-2
+enum-told-2 c = search needs
+
+put-ack-requires-2 : tie.Need-put-ack-requires-2
+put-ack-requires-2 c κs = (short (c .before .before .before .before .before), search needs)
+
+enum-told-3 : tie.Need-enum-told-3
+enum-told-3 c = search needs
+
+put-ack-requires-3 : tie.Need-put-ack-requires-3
+put-ack-requires-3 c κs = (short (c .before .before .before .before .before), search needs)
+
+enum-told-4 : tie.Need-enum-told-4
+enum-told-4 c = search needs
+
+put-ack-requires-4 : tie.Need-put-ack-requires-4
+put-ack-requires-4 c κs = (short (c .before .before .before .before .before), search needs)
+
+enum-told-5 : tie.Need-enum-told-5
+enum-told-5 c = search needs
+
+put-ack-requires-5 : tie.Need-put-ack-requires-5
+put-ack-requires-5 c κs = (short (c .before .before .before .before .before), search needs)
+
+enum-told-6 : tie.Need-enum-told-6
+enum-told-6 c = search needs
+
+put-ack-requires-6 : tie.Need-put-ack-requires-6
+put-ack-requires-6 c κs = (short (c .before .before .before .before .before), search needs)
+
+echo : (z : tie.Start) → isRead (z .args .command) ≡ false →
+    responsePayload (z .args .command) (valueRead (z .args .state) (z .args .command)) ≡ ackResponse ∷ noError ∷ z .args .payload .now
+echo z = echoed (z .args .command) (z .args .payload .now) (z .pre .0 .1) (valueRead (z .args .state) (z .args .command))
+
+same-length : tie.Need-same-length
+same-length c = search needs
+
+returns : tie.Need-returns
+returns c =
+    let k = c .before .before in
+    rw (k .before .before .before .command .given .1) (k .put-read .ensures)
+
+same-length-2 : tie.Need-same-length-2
+same-length-2 c = search needs
+
+returns-2 : tie.Need-returns-2
+returns-2 c =
+    let k = c .before .before in
+    rw (k .before .before .before .command2 .given .1) (k .put-read-row .ensures)
+
+same-length-3 : tie.Need-same-length-3
+same-length-3 c = search needs
+
+returns-3 : tie.Need-returns-3
+returns-3 c =
+    let k = c .before .before in
+    rw (k .before .before .before .command3 .given .1) (k .put-read2 .ensures)
+
+same-length-4 : tie.Need-same-length-4
+same-length-4 c = search needs
+
+returns-4 : tie.Need-returns-4
+returns-4 c =
+    let k = c .before .before in
+    rw (k .before .before .before .command4 .given .1) (k .put-read-row2 .ensures)
+
+same-length-5 : tie.Need-same-length-5
+same-length-5 c = search needs
+
+returns-5 : tie.Need-returns-5
+returns-5 c =
+    let k = c .before .before in
+    let t = k .before .before in
+    rw (echo (t .before .before .before .before) (ap isRead (t .enum-told .given .1))) (k .put-ack .ensures)
+
+same-length-6 : tie.Need-same-length-6
+same-length-6 c = search needs
+
+returns-6 : tie.Need-returns-6
+returns-6 c =
+    let k = c .before .before in
+    let t = k .before .before in
+    rw (echo (t .before .before .before .before) (ap isRead (t .enum-told2 .given .1))) (k .put-ack2 .ensures)
+
+same-length-7 : tie.Need-same-length-7
+same-length-7 c = search needs
+
+returns-7 : tie.Need-returns-7
+returns-7 c =
+    let k = c .before .before in
+    let t = k .before .before in
+    rw (echo (t .before .before .before .before) (ap isRead (t .enum-told3 .given .1))) (k .put-ack3 .ensures)
+
+same-length-8 : tie.Need-same-length-8
+same-length-8 c = search needs
+
+returns-8 : tie.Need-returns-8
+returns-8 c =
+    let k = c .before .before in
+    let t = k .before .before in
+    rw (echo (t .before .before .before .before) (ap isRead (t .enum-told4 .given .1))) (k .put-ack4 .ensures)
+
+same-length-9 : tie.Need-same-length-9
+same-length-9 c = search needs
+
+returns-9 : tie.Need-returns-9
+returns-9 c =
+    let k = c .before .before in
+    let t = k .before .before in
+    rw (echo (t .before .before .before .before) (ap isRead (t .enum-told5 .given .1))) (k .put-ack5 .ensures)
+
+same-length-10 : tie.Need-same-length-10
+same-length-10 c = search needs
+
+returns-10 : tie.Need-returns-10
+returns-10 c =
+    let k = c .before .before in
+    let t = k .before .before in
+    rw (echo (t .before .before .before .before) (ap isRead (t .enum-told6 .given .1))) (k .put-ack6 .ensures)
+
+pub put-payload-spec : {M : Type 1} → statement M
+put-payload-spec =
+    tie.close
+    (tie.spec
+    enum-known-command
+    put-read-requires
+    enum-known-command-2
+    put-read-row-requires
+    enum-known-command-3
+    put-read-requires-2
+    enum-known-command-4
+    put-read-row-requires-2
+    enum-told
+    put-ack-requires
+    enum-told-2
+    put-ack-requires-2
+    enum-told-3
+    put-ack-requires-3
+    enum-told-4
+    put-ack-requires-4
+    enum-told-5
+    put-ack-requires-5
+    enum-told-6
+    put-ack-requires-6
+    same-length
+    returns
+    same-length-2
+    returns-2
+    same-length-3
+    returns-3
+    same-length-4
+    returns-4
+    same-length-5
+    returns-5
+    same-length-6
+    returns-6
+    same-length-7
+    returns-7
+    same-length-8
+    returns-8
+    same-length-9
+    returns-9
+    same-length-10
+    returns-10)

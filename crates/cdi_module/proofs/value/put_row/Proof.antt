@@ -1,0 +1,92 @@
+-- An index that fits is in range, so the row that is read is the one of that number.
+-- Assumes nothing.
+use Prim.Native.Nat.{_≤_}
+use native.Mathlib.Omega.{arith}
+use Rattle.cdi_command.proofs.Accepted.{slot-in-range, input-in-range}
+use Rattle.cdi_module.proofs.Values.{input-at}
+use borrow.Author.Needs.{needs}
+use Rattle.cdi_module.proofs.value.put_row.Statement.{statement}
+use Rattle.cdi_module.proofs.value.put_row.Tie as tie
+
+enum-known-index : tie.Need-enum-known-index
+enum-known-index c = search needs
+
+cast-slot : tie.Need-cast-slot
+cast-slot c = search needs
+
+mul-slot : tie.Need-mul-slot
+mul-slot c = search needs
+
+element-copy-out-slot : tie.Need-element-copy-out-slot
+element-copy-out-slot c =
+    let i = c .before .before in
+    let z = i .before .before .before in
+    slot-in-range (z .args .item) (i .index .given .0 .0) (rw (i .index .given .1) at (z .pre .0)) .1
+
+put-slot-requires : tie.Need-put-slot-requires
+put-slot-requires c κs = search needs
+
+enum-known-index-2 : tie.Need-enum-known-index-2
+enum-known-index-2 c = search needs
+
+in-range : (i : tie.After-index2) →
+    let n = i .index2 .given .0 .0 .0 in
+    (1 ≤ n) × (n ≤ 2)
+in-range i =
+    let z = i .before .before .before in
+    let r = input-in-range (z .args .item) (i .index2 .given .0 .0) (rw (i .index2 .given .1) at (z .pre .0)) in
+    (r .1, r .2)
+
+sub-input : tie.Need-sub-input
+sub-input c = in-range (c .before .before) .0
+
+cast-input : tie.Need-cast-input
+cast-input c = search needs
+
+mul-input : tie.Need-mul-input
+mul-input c = search needs
+
+element-copy-out-input : tie.Need-element-copy-out-input
+element-copy-out-input c = omega (arith, in-range (c .before .before))
+
+put-input-requires : tie.Need-put-input-requires
+put-input-requires c κs = search needs
+
+same-length : tie.Need-same-length
+same-length c = search needs
+
+returns : tie.Need-returns
+returns c =
+    let k = c .before .before in
+    let i = k .before .before .before .before .before in
+    rw (i .index .given .1) (k .put-slot .ensures)
+
+same-length-2 : tie.Need-same-length-2
+same-length-2 c = search needs
+
+returns-2 : tie.Need-returns-2
+returns-2 c =
+    let k = c .before .before in
+    let i = k .before .before .before .before .before in
+    let n = i .index2 .given .0 .0 .0 in
+    rw (i .index2 .given .1, input-at (i .before .before .before .args .t2) n (in-range i .0)) (k .put-input .ensures)
+
+pub put-row-spec : {M : Type 1} → statement M
+put-row-spec =
+    tie.close
+    (tie.spec
+    enum-known-index
+    cast-slot
+    mul-slot
+    element-copy-out-slot
+    put-slot-requires
+    enum-known-index-2
+    sub-input
+    cast-input
+    mul-input
+    element-copy-out-input
+    put-input-requires
+    same-length
+    returns
+    same-length-2
+    returns-2)

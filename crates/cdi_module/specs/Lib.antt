@@ -1,0 +1,5 @@
+pub mod Value
+pub mod Store
+pub mod Module
+pub mod Machine
+pub mod Theorem

@@ -1,0 +1,75 @@
+-- Document 01, "Numbers that a refusal carries" (the unit, power-up): what the module decides on a step, and the state and the
+-- result by that decision. The contracts cite `step` and `resultOf`; the sequence theorem holds them against the reference model.
+use Prim.Native.Nat.{ℕ}
+use mathlib.Core.List.{List}
+use mathlib.Core.Bool.{cond}
+use lib.Dec.{ltb}
+use lib.ListN.{length}
+use Rattle.logic.specs.Written.{written}
+use Rattle.refusal.specs.Refusal.{Result, accepted, refused, andThen, none, invalid, responseBufferShort}
+use Rattle.cdi_frame.specs.Frame.{wakeLimit, readFrame, payloadIn}
+use Rattle.cdi_frame.specs.Layout.{responseFrame}
+use Rattle.cdi_command.specs.declared.Command.{Command}
+use Rattle.cdi_command.specs.Command.{validatePayload}
+use Rattle.cdi_command.specs.Payload.{responsePayload}
+use Rattle.cdi_state.specs.declared.ModuleState.{ModuleState}
+use Rattle.cdi_state.specs.Valid.{isValid}
+use Rattle.cdi_model.specs.Step.{Step, powerUp, command, StepResult, poweredUp, responded}
+use Rattle.cdi_module.specs.Value.{valueRead}
+use Rattle.cdi_module.specs.Store.{stateAfter, stateAtPowerUp}
+
+-- the longest response: three bytes of the frame, C1, the item and 17 bytes of name
+abbrev pub responseMax : ℕ
+responseMax = 22
+
+pub data Decision : Type 0 where
+  refuse : ℕ → Decision
+  execute : Command → Decision
+  executePowerUp : Decision
+
+-- a command that was validated, or the number of its refusal
+abbrev pub decided : Result Command → Decision
+decided (accepted c) = execute c
+decided (refused n) = refuse n
+
+-- refusals 3 to 12: the frame's, then the payload's
+unfoldable pub commandIn : List ℕ → Result Command
+commandIn block = andThen (readFrame wakeLimit block) (λ span. validatePayload (payloadIn block span))
+
+-- refusals 1 and 2 stand before those of the block; of a power-up there is 2 alone
+unfoldable pub decide : ModuleState → Step → Decision
+decide s powerUp = cond (isValid s) executePowerUp (refuse invalid)
+decide s (command block response) =
+    cond (ltb (length response) responseMax) (refuse responseBufferShort)
+    (cond (isValid s) (decided (commandIn block)) (refuse invalid))
+
+-- the state by the decision: a refusal changes nothing
+abbrev pub stateBy : ModuleState → Decision → ModuleState
+stateBy s (refuse n) = s
+stateBy s (execute c) = stateAfter s c
+stateBy s executePowerUp = stateAtPowerUp s
+
+-- the response to a command, which reads the state as the command found it
+abbrev pub responseTo : ModuleState → Command → List ℕ
+responseTo s c = responseFrame (responsePayload c (valueRead s c))
+
+-- the result by the decision: a refusal has the length 0 and writes nothing
+abbrev pub blockResult : ModuleState → List ℕ → Decision → StepResult
+blockResult s response (refuse n) = responded n 0 response
+blockResult s response (execute c) = responded none (length (responseTo s c)) (written response (responseTo s c))
+blockResult s response executePowerUp = responded none 0 response
+
+abbrev pub refusalBy : Decision → ℕ
+refusalBy (refuse n) = n
+refusalBy (execute c) = none
+refusalBy executePowerUp = none
+
+abbrev pub resultBy : ModuleState → Step → Decision → StepResult
+resultBy s powerUp d = poweredUp (refusalBy d)
+resultBy s (command block response) d = blockResult s response d
+
+unfoldable pub step : ModuleState → Step → ModuleState
+step s x = stateBy s (decide s x)
+
+unfoldable pub resultOf : ModuleState → Step → StepResult
+resultOf s x = resultBy s x (decide s x)

@@ -1,0 +1,170 @@
+-- Document 01, "Items": the state after an accepted command, and after a power-up.
+use Prim.Native.Nat.{ℕ, zero, suc}
+use mathlib.Core.List.{List, [], _∷_}
+use mathlib.Core.Bool.{cond}
+use lib.Dec.{eqb}
+use lib.ListN.{getD, set, replicate}
+use Rattle.cdi_item.specs.declared.Value.{Value}
+use Rattle.cdi_item.specs.Items as item
+use Rattle.cdi_command.specs.declared.Index.{Index}
+use Rattle.cdi_command.specs.declared.Index.the-variants.{Slot as SlotAt, Input as InputAt}
+use Rattle.cdi_command.specs.declared.Command.{Command}
+use Rattle.cdi_command.specs.declared.Command.the-variants.{Read, ReadIndexed, ReadNv, ReadNvIndexed, Write, WriteIndexed, Program, ProgramIndexed, SetDefault, EraseAll}
+use Rattle.cdi_state.specs.declared.AnalogInput.{AnalogInput}
+use Rattle.cdi_state.specs.declared.Slot.{Slot}
+use Rattle.cdi_state.specs.declared.Settings.{Settings}
+use Rattle.cdi_state.specs.declared.ModuleState.{ModuleState}
+use Rattle.cdi_state.specs.State.{defaultSettings, emptySlot, noRssi}
+use Rattle.cdi_module.specs.Value.{settingBytes, place}
+
+-- ---- a state with some of its parts replaced
+abbrev pub withAddress : ModuleState → List ℕ → ModuleState
+withAddress s a = record {
+  name = s .name;
+  firmware = s .firmware;
+  serial = s .serial;
+  address = a;
+  nv = s .nv;
+  working = s .working;
+  slots = s .slots;
+  lines = s .lines;
+  rssi = s .rssi;
+  ladj = s .ladj;
+  events = s .events;
+  flags = s .flags;
+  hardware = s .hardware;
+}
+
+abbrev pub withSettings : ModuleState → (nv working : Settings) → ModuleState
+withSettings s n w = record {
+  name = s .name;
+  firmware = s .firmware;
+  serial = s .serial;
+  address = s .address;
+  nv = n;
+  working = w;
+  slots = s .slots;
+  lines = s .lines;
+  rssi = s .rssi;
+  ladj = s .ladj;
+  events = s .events;
+  flags = s .flags;
+  hardware = s .hardware;
+}
+
+abbrev pub withSlots : ModuleState → List Slot → ModuleState
+withSlots s l = record {
+  name = s .name;
+  firmware = s .firmware;
+  serial = s .serial;
+  address = s .address;
+  nv = s .nv;
+  working = s .working;
+  slots = l;
+  lines = s .lines;
+  rssi = s .rssi;
+  ladj = s .ladj;
+  events = s .events;
+  flags = s .flags;
+  hardware = s .hardware;
+}
+
+-- settings with the bytes of a list in the order of `settingBytes`
+abbrev pub withBytes : Settings → List ℕ → Settings
+withBytes t l = record {
+  «line_mask» = getD l 0 0;
+  «latch_mask» = getD l 1 0;
+  «tx_power» = getD l 2 0;
+  «control_source» = getD l 3 0;
+  «message_select» = getD l 4 0;
+  «analog_inputs» = t .«analog_inputs»;
+  «interrupt_mask» = getD l 5 0;
+}
+
+abbrev pub withInputs : Settings → List AnalogInput → Settings
+withInputs t l = record {
+  «line_mask» = t .«line_mask»;
+  «latch_mask» = t .«latch_mask»;
+  «tx_power» = t .«tx_power»;
+  «control_source» = t .«control_source»;
+  «message_select» = t .«message_select»;
+  «analog_inputs» = l;
+  «interrupt_mask» = t .«interrupt_mask»;
+}
+
+-- ---- a value in one copy of the settings
+unfoldable pub settingStored : Settings → ℕ → ℕ → Settings
+settingStored t code byte = withBytes t (set (settingBytes t) (place code) byte)
+
+abbrev pub inputFrom : Value → AnalogInput
+inputFrom v = record { channel = v .byte0; readings = v .byte1; reference = v .byte2; offset = v .byte3 ∷ v .byte4 ∷ [] }
+
+-- the row of an input, by its number from 1 on
+abbrev pub inputStored : Settings → ℕ → AnalogInput → Settings
+inputStored t zero x = t
+inputStored t (suc i) x = withInputs t (set (t .«analog_inputs») i x)
+
+abbrev pub addressFrom : Value → List ℕ
+addressFrom v = v .byte0 ∷ v .byte1 ∷ v .byte2 ∷ v .byte3 ∷ []
+
+abbrev pub slotFrom : Value → Slot
+slotFrom v = record { address = addressFrom v; mask = v .byte4 }
+
+-- ---- commands
+-- Write stores in the working copy alone; no slot has one
+abbrev pub plainWritten : ModuleState → ℕ → Value → ModuleState
+plainWritten s code v = withSettings s (s .nv) (settingStored (s .working) code (v .byte0))
+
+abbrev pub rowWritten : ModuleState → Index → Value → ModuleState
+rowWritten s (SlotAt i) v = s
+rowWritten s (InputAt n) v = withSettings s (s .nv) (inputStored (s .working) (n .0) (inputFrom v))
+
+-- Program stores in both copies, of the address and of a slot in the one that there is
+abbrev pub plainProgrammed : ModuleState → ℕ → Value → ModuleState
+plainProgrammed s code v =
+    cond (eqb code item.address) (withAddress s (addressFrom v))
+    (withSettings s (settingStored (s .nv) code (v .byte0)) (settingStored (s .working) code (v .byte0)))
+
+abbrev pub slotProgrammed : ModuleState → ℕ → Slot → ModuleState
+slotProgrammed s i x = withSlots s (set (s .slots) i x)
+
+abbrev pub rowProgrammed : ModuleState → Index → Value → ModuleState
+rowProgrammed s (SlotAt i) v = slotProgrammed s (i .0) (slotFrom v)
+rowProgrammed s (InputAt n) v =
+    withSettings s (inputStored (s .nv) (n .0) (inputFrom v)) (inputStored (s .working) (n .0) (inputFrom v))
+
+abbrev pub defaulted : ModuleState → ModuleState
+defaulted s = withSettings s defaultSettings defaultSettings
+
+abbrev pub erased : ModuleState → ModuleState
+erased s = withSlots s (replicate 40 emptySlot)
+
+abbrev pub stateAfter : ModuleState → Command → ModuleState
+stateAfter s (Read x) = s
+stateAfter s (ReadIndexed x i) = s
+stateAfter s (ReadNv x) = s
+stateAfter s (ReadNvIndexed x i) = s
+stateAfter s (Write x v) = plainWritten s (x .code) v
+stateAfter s (WriteIndexed x i v) = rowWritten s i v
+stateAfter s (Program x v) = plainProgrammed s (x .code) v
+stateAfter s (ProgramIndexed x i v) = rowProgrammed s i v
+stateAfter s SetDefault = defaulted s
+stateAfter s EraseAll = erased s
+
+-- a power-up takes the working settings from the non-volatile ones, and clears RSSI, events and flags
+abbrev pub stateAtPowerUp : ModuleState → ModuleState
+stateAtPowerUp s = record {
+  name = s .name;
+  firmware = s .firmware;
+  serial = s .serial;
+  address = s .address;
+  nv = s .nv;
+  working = s .nv;
+  slots = s .slots;
+  lines = s .lines;
+  rssi = noRssi;
+  ladj = s .ladj;
+  events = 0x00;
+  flags = 0x00;
+  hardware = s .hardware;
+}

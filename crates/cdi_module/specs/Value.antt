@@ -1,0 +1,85 @@
+-- Document 01, "Items": the bytes that Read and Read NV answer with, as the module has them in its state.
+use Prim.Native.Nat.{ℕ, zero, suc}
+use mathlib.Core.List.{List, [], _∷_}
+use mathlib.Core.Bool.{cond}
+use lib.Bits.{bitAnd, bitOr}
+use lib.Dec.{eqb}
+use lib.ListN.{getD}
+use Rattle.cdi_item.specs.Items as item
+use Rattle.cdi_command.specs.declared.Index.{Index}
+use Rattle.cdi_command.specs.declared.Index.the-variants.{Slot, Input}
+use Rattle.cdi_command.specs.declared.Command.{Command}
+use Rattle.cdi_command.specs.declared.Command.the-variants.{Read, ReadIndexed, ReadNv, ReadNvIndexed, Write, WriteIndexed, Program, ProgramIndexed, SetDefault, EraseAll}
+use Rattle.cdi_state.specs.declared.AnalogInput.{AnalogInput}
+use Rattle.cdi_state.specs.declared.Settings.{Settings}
+use Rattle.cdi_state.specs.declared.HardwareSelection.{HardwareSelection}
+use Rattle.cdi_state.specs.declared.ModuleState.{ModuleState}
+use Rattle.cdi_state.specs.State.{inputBytes, slotBytes, noInput, noSlot}
+
+-- ---- the settings of one byte as a list, in the order of their items: 11 to 15, 25
+abbrev pub settingBytes : Settings → List ℕ
+settingBytes t =
+    t .«line_mask» ∷ t .«latch_mask» ∷ t .«tx_power» ∷ t .«control_source» ∷ t .«message_select» ∷ t .«interrupt_mask» ∷ []
+
+-- an item's place in that list; 25's for any other
+abbrev pub place : ℕ → ℕ
+place code =
+    cond (eqb code item.lineMask) 0
+    (cond (eqb code item.latchMask) 1
+    (cond (eqb code item.txPower) 2
+    (cond (eqb code item.controlSource) 3
+    (cond (eqb code item.messageSelect) 4 5))))
+
+unfoldable pub settingByte : Settings → ℕ → ℕ
+settingByte t code = getD (settingBytes t) (place code) 0
+
+-- the row of an input, by its number from 1 on
+abbrev pub inputAt : Settings → ℕ → AnalogInput
+inputAt t zero = noInput
+inputAt t (suc i) = getD (t .«analog_inputs») i noInput
+
+-- a name's bytes up to and with the first 00
+unfoldable pub nameShown : List ℕ → List ℕ
+nameShown [] = []
+nameShown (b ∷ bs) = cond (eqb b 0) (b ∷ []) (b ∷ nameShown bs)
+
+-- item 23: the flags, with bit 7 where an event is in the interrupt mask; then power, line mask and latch mask, each of the
+-- hardware where its bit of the control source is 0, else the working value
+unfoldable pub statusShown : Settings → HardwareSelection → (flags events : ℕ) → List ℕ
+statusShown t h flags events =
+    cond (eqb (bitAnd events (t .«interrupt_mask»)) 0) flags (bitOr flags 0x80) ∷
+    cond (eqb (bitAnd (t .«control_source») 0x01) 0) (h .power) (t .«tx_power») ∷
+    cond (eqb (bitAnd (t .«control_source») 0x08) 0) (h .«line_mask») (t .«line_mask») ∷
+    cond (eqb (bitAnd (t .«control_source») 0x10) 0) (h .«latch_mask») (t .«latch_mask») ∷ []
+
+-- an item that has no index, its settings of one copy
+unfoldable pub plainValue : ModuleState → Settings → ℕ → List ℕ
+plainValue s t code =
+    cond (eqb code item.name) (nameShown (s .name))
+    (cond (eqb code item.firmware) (s .firmware)
+    (cond (eqb code item.serial) (s .serial)
+    (cond (eqb code item.address) (s .address)
+    (cond (eqb code item.lines) (s .lines)
+    (cond (eqb code item.rssi) (s .rssi)
+    (cond (eqb code item.ladj) (s .ladj ∷ [])
+    (cond (eqb code item.status) (statusShown (s .working) (s .hardware) (s .flags) (s .events))
+    (cond (eqb code item.events) (s .events ∷ [])
+    (settingByte t code ∷ [])))))))))
+
+-- a row of an indexed item
+abbrev pub rowValue : ModuleState → Settings → Index → List ℕ
+rowValue s t (Slot i) = slotBytes (getD (s .slots) (i .0) noSlot)
+rowValue s t (Input n) = inputBytes (inputAt t (n .0))
+
+-- what a command reads: Read the working copy, Read NV the non-volatile one, any other command nothing
+abbrev pub valueRead : ModuleState → Command → List ℕ
+valueRead s (Read x) = plainValue s (s .working) (x .code)
+valueRead s (ReadIndexed x i) = rowValue s (s .working) i
+valueRead s (ReadNv x) = plainValue s (s .nv) (x .code)
+valueRead s (ReadNvIndexed x i) = rowValue s (s .nv) i
+valueRead s (Write x v) = []
+valueRead s (WriteIndexed x i v) = []
+valueRead s (Program x v) = []
+valueRead s (ProgramIndexed x i v) = []
+valueRead s SetDefault = []
+valueRead s EraseAll = []
