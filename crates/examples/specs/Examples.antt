@@ -1,0 +1,69 @@
+-- Document 01, "Examples": the proved set, the first two cases of each line but the one on item 16. A block is run on the factory state,
+-- or after other blocks.
+use Prim.Native.Nat.{ℕ}
+use mathlib.Core.Path.{_≡_}
+use mathlib.Core.List.{List, [], _∷_, map}
+use lib.IntN.{ℤ, pos}
+use lib.ListN.{length, replicate}
+use Rattle.logic.specs.Written.{written}
+use Rattle.refusal.specs.Refusal.{none, endsEarly, wrongLength, notPermitted, wrongIndex, valueNotAccepted}
+use Rattle.sequence.specs.Machine.{run}
+use Rattle.analog.specs.Analog.{result, readoutOf, percentOf}
+use Rattle.cdi_state.specs.State.{factoryState}
+use Rattle.cdi_model.specs.Step.{Step, command, StepResult, responded}
+use Rattle.cdi_model.specs.Model.{model}
+use Rattle.cdi_module.specs.Module.{resultOf}
+use Rattle.cdi_module.specs.Machine.{machine}
+
+-- what a block gets: a response, or a refusal's number
+pub data Expected : Type 0 where
+  response : List ℕ → Expected
+  refusal : ℕ → Expected
+
+pub data Example : Type 0 where
+  onBlock : (before : List (List ℕ)) (block : List ℕ) → Expected → Example
+  onReadings : (readings : List ℕ) (offset : ℤ) (readout percent : ℕ) → Example
+
+-- a response buffer, filled so that what is written and what is left can be told
+abbrev pub buffer : List ℕ
+buffer = replicate 22 0xAA
+
+abbrev pub asResult : Expected → StepResult
+asResult (response bytes) = responded none (length bytes) (written buffer bytes)
+asResult (refusal n) = responded n 0 buffer
+
+abbrev pub asStep : List ℕ → Step
+asStep block = command block buffer
+
+-- an example holds where the module's result is the expected one, in every byte of the response buffer
+abbrev pub Holds : Example → Type 0
+Holds (onBlock before block expected) =
+    resultOf (run model machine factoryState (map asStep before)) (asStep block) ≡ asResult expected
+Holds (onReadings readings offset readout percent) =
+    (readoutOf readings offset ≡ result none readout) × (percentOf readout ≡ percent)
+
+abbrev pub AllHold : List Example → Type 0
+AllHold [] = Unit {0}
+AllHold (x ∷ xs) = Holds x × AllHold xs
+
+abbrev pub examples : List Example
+examples =
+    onBlock [] (0x80 ∷ 0x55 ∷ 0x82 ∷ 0x01 ∷ 0x15 ∷ []) (response (0x80 ∷ 0x55 ∷ 0x83 ∷ 0xC1 ∷ 0x15 ∷ 0x00 ∷ [])) ∷
+    onBlock [] (0x80 ∷ 0xFF ∷ 0xFF ∷ 0x55 ∷ 0x82 ∷ 0x01 ∷ 0x15 ∷ []) (response (0x80 ∷ 0x55 ∷ 0x83 ∷ 0xC1 ∷ 0x15 ∷ 0x00 ∷ [])) ∷
+    onBlock [] (0x80 ∷ 0x55 ∷ 0x83 ∷ 0x04 ∷ 0x15 ∷ 0x06 ∷ []) (response (0x80 ∷ 0x55 ∷ 0x85 ∷ 0xC0 ∷ 0x00 ∷ 0x04 ∷ 0x15 ∷ 0x06 ∷ [])) ∷
+    onBlock ((0x80 ∷ 0x55 ∷ 0x83 ∷ 0x04 ∷ 0x15 ∷ 0x06 ∷ []) ∷ []) (0x80 ∷ 0x55 ∷ 0x82 ∷ 0x03 ∷ 0x15 ∷ [])
+    (response (0x80 ∷ 0x55 ∷ 0x83 ∷ 0xC2 ∷ 0x15 ∷ 0x06 ∷ [])) ∷
+    onBlock [] (0x80 ∷ 0x55 ∷ 0x83 ∷ 0x02 ∷ 0x15 ∷ 0x07 ∷ []) (refusal valueNotAccepted) ∷
+    onBlock [] (0x80 ∷ 0x55 ∷ 0x82 ∷ 0x03 ∷ 0x25 ∷ []) (refusal notPermitted) ∷
+    onBlock [] (0x80 ∷ 0x55 ∷ 0x83 ∷ 0x02 ∷ 0x13 ∷ 0xEC ∷ []) (response (0x80 ∷ 0x55 ∷ 0x85 ∷ 0xC0 ∷ 0x00 ∷ 0x02 ∷ 0x13 ∷ 0xEC ∷ [])) ∷
+    onBlock [] (0x80 ∷ 0x55 ∷ 0x83 ∷ 0x02 ∷ 0x13 ∷ 0xEB ∷ []) (refusal valueNotAccepted) ∷
+    onBlock [] (0x80 ∷ 0x55 ∷ 0x81 ∷ 0x82 ∷ []) (response (0x80 ∷ 0x55 ∷ 0x83 ∷ 0xC0 ∷ 0x00 ∷ 0x82 ∷ [])) ∷
+    onBlock [] (0x80 ∷ 0x55 ∷ 0x81 ∷ 0x01 ∷ []) (refusal wrongLength) ∷
+    onBlock [] (0x80 ∷ 0x55 ∷ 0x88 ∷ 0x04 ∷ 0x18 ∷ 0x27 ∷ 0x01 ∷ 0x02 ∷ 0x03 ∷ 0x04 ∷ 0x05 ∷ [])
+    (response (0x80 ∷ 0x55 ∷ 0x8A ∷ 0xC0 ∷ 0x00 ∷ 0x04 ∷ 0x18 ∷ 0x27 ∷ 0x01 ∷ 0x02 ∷ 0x03 ∷ 0x04 ∷ 0x05 ∷ [])) ∷
+    onBlock [] (0x80 ∷ 0x55 ∷ 0x88 ∷ 0x04 ∷ 0x18 ∷ 0x28 ∷ 0x01 ∷ 0x02 ∷ 0x03 ∷ 0x04 ∷ 0x05 ∷ []) (refusal wrongIndex) ∷
+    onBlock [] [] (refusal endsEarly) ∷
+    onBlock [] (0x80 ∷ []) (refusal endsEarly) ∷
+    onReadings (3563 ∷ 3564 ∷ []) (pos 0) 57016 87 ∷
+    onReadings (4095 ∷ []) (pos 15) 65535 100 ∷
+    []
