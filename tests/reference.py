@@ -1,14 +1,18 @@
 """An independent implementation of document 01, to hold the project's code against.
 
 It is written from the paper alone and laid out by the paper's sections. Every function is pure,
-over bytes and whole numbers. A refusal is given as its number; 0 stands for accepted.
+over bytes, whole numbers and tuples of them. A refusal is given as its number; 0 stands for
+accepted.
 """
 
+import functools
 from collections import namedtuple
 
 # ---- 01, "Numbers that a refusal carries" ----------------------------------------------------
 
 ACCEPTED = 0
+RESPONSE_BUFFER_SHORT = 1
+INVALID = 2
 ENDS_EARLY = 3
 START_WRONG = 4
 LENGTH_BYTE_LOW = 5
@@ -166,6 +170,198 @@ def accepts(item, value):
     return item not in ACCEPTANCE or ACCEPTANCE[item](value)
 
 
+# ---- 01, "Items" (the module record) ---------------------------------------------------------
+
+# One copy of the settings. Items of one byte are numbers, 16 is a tuple of two rows of five bytes.
+Settings = namedtuple(
+    "Settings",
+    "line_mask latch_mask tx_power control_source message_select analog_inputs interrupt_mask",
+)
+
+# The three values that the hardware picks.
+HardwareSelection = namedtuple("HardwareSelection", "power line_mask latch_mask")
+
+# 01's "module record". Cells of one byte are numbers, longer ones bytes, the slots a tuple of
+# forty times five bytes.
+ModuleState = namedtuple(
+    "ModuleState",
+    "name firmware serial address nv working slots lines rssi ladj events flags hardware",
+)
+
+SLOTS = 40
+EMPTY_SLOT = bytes(5)
+RSSI_AT_START = b"\x80\x80"
+
+# What Set Default stores.
+DEFAULT_SETTINGS = Settings(
+    line_mask=0x00,
+    latch_mask=0x00,
+    tx_power=0x00,
+    control_source=0x06,
+    message_select=0x00,
+    analog_inputs=(b"\xff\x01\x00\x00\x00", b"\xff\x01\x00\x00\x00"),
+    interrupt_mask=0x00,
+)
+
+# The factory record.
+FACTORY_STATE = ModuleState(
+    name=bytes(17),
+    firmware=bytes(3),
+    serial=bytes(4),
+    address=bytes(4),
+    nv=DEFAULT_SETTINGS,
+    working=DEFAULT_SETTINGS,
+    slots=SLOTS * (EMPTY_SLOT,),
+    lines=bytes(2),
+    rssi=RSSI_AT_START,
+    ladj=0x00,
+    events=0x00,
+    flags=0x00,
+    hardware=HardwareSelection(power=0x00, line_mask=0x00, latch_mask=0x00),
+)
+
+
+@functools.lru_cache(maxsize=16)  # a step leaves most of the state as it was
+def is_valid_settings(settings):
+    """One copy of 13, 14, 15 and both rows of 16 hold accepted values."""
+    return (
+        accepts_tx_power(bytes([settings.tx_power]))
+        and accepts_control_word(bytes([settings.control_source]))
+        and accepts_message_select(bytes([settings.message_select]))
+        and all(map(accepts_analog_input, settings.analog_inputs))
+    )
+
+
+@functools.lru_cache(maxsize=16)
+def are_valid_slots(slots):
+    """All slots hold accepted values."""
+    return all(map(accepts_slot, slots))
+
+
+def is_valid_flags(flags):
+    """The mode, bits 0 to 2, is at most 4; bits 3, 6 and 7 are zero."""
+    return flags & 0b111 <= 4 and all(flags >> bit & 1 == 0 for bit in (3, 6, 7))
+
+
+def is_valid(state):
+    """01's "sound": name, both copies of the settings, slots and flags."""
+    return (
+        0x00 in state.name
+        and is_valid_settings(state.nv)
+        and is_valid_settings(state.working)
+        and are_valid_slots(state.slots)
+        and is_valid_flags(state.flags)
+    )
+
+
+# ---- 01, "Items" (what Read and Read NV answer) ----------------------------------------------
+
+ONE_BYTE_SETTINGS = {
+    0x11: "line_mask",
+    0x12: "latch_mask",
+    0x13: "tx_power",
+    0x14: "control_source",
+    0x15: "message_select",
+    0x25: "interrupt_mask",
+}
+SETTINGS_ITEMS = {*ONE_BYTE_SETTINGS, 0x16}
+
+
+def setting_value(settings, item, index):
+    """The value of a settings item in one of the two copies; the rows of 16 count from 1."""
+    if item == 0x16:
+        return settings.analog_inputs[index - 1]
+    return bytes([getattr(settings, ONE_BYTE_SETTINGS[item])])
+
+
+def name_value(name):
+    """01, "Items", row 01: up to and with the first 00 of the stored bytes."""
+    return name[: name.index(0x00) + 1]
+
+
+def status_value(state):
+    """01, "Item 23": flags, power, line mask and latch mask."""
+    working, hardware = state.working, state.hardware
+    control = working.control_source
+    interrupt = 0x80 if state.events & working.interrupt_mask else 0x00
+    return bytes(
+        [
+            state.flags & 0x7F | interrupt,
+            working.tx_power if control >> 0 & 1 else hardware.power,
+            working.line_mask if control >> 3 & 1 else hardware.line_mask,
+            working.latch_mask if control >> 4 & 1 else hardware.latch_mask,
+        ]
+    )
+
+
+def read_value(state, command, item, index):
+    """The value that an accepted Read or Read NV answers; an item without a working cell gives
+    Read its nonvolatile one."""
+    if item in SETTINGS_ITEMS:
+        return setting_value(state.nv if command == READ_NV else state.working, item, index)
+    if item == 0x01:
+        return name_value(state.name)
+    if item == 0x18:
+        return state.slots[index]
+    if item == 0x23:
+        return status_value(state)
+    return {
+        0x02: state.firmware,
+        0x03: state.serial,
+        0x10: state.address,
+        0x20: state.lines,
+        0x21: state.rssi,
+        0x22: bytes([state.ladj]),
+        0x26: bytes([state.events]),
+    }[item]
+
+
+# ---- 01, "Items" (what the other commands store) and "Who reads and stores which cell" --------
+
+
+def with_row(rows, place, row):
+    """The rows with one of them replaced; the place counts from 0."""
+    return rows[:place] + (row,) + rows[place + 1 :]
+
+
+def with_setting(settings, item, index, value):
+    """One copy of the settings with one value replaced."""
+    if item == 0x16:
+        rows = with_row(settings.analog_inputs, index - 1, value)
+        return settings._replace(analog_inputs=rows)
+    return settings._replace(**{ONE_BYTE_SETTINGS[item]: value[0]})
+
+
+def store_value(state, command, item, index, value):
+    """The state after an accepted Write, which stores the working cell alone, or Program, which
+    stores that cell where there is one and the nonvolatile cell or the slot."""
+    if item == 0x10:
+        return state._replace(address=value)
+    if item == 0x18:
+        return state._replace(slots=with_row(state.slots, index, value))
+    state = state._replace(working=with_setting(state.working, item, index, value))
+    if command == PROGRAM:
+        state = state._replace(nv=with_setting(state.nv, item, index, value))
+    return state
+
+
+def set_default(state):
+    """The state after 81: both copies of the settings."""
+    return state._replace(nv=DEFAULT_SETTINGS, working=DEFAULT_SETTINGS)
+
+
+def erase_all_addresses(state):
+    """The state after 82: every slot is empty."""
+    return state._replace(slots=SLOTS * (EMPTY_SLOT,))
+
+
+def power_up(state):
+    """State afterwards and refusal of a power-up."""
+    if not is_valid(state):
+        return state, INVALID
+    return state._replace(working=state.nv, rssi=RSSI_AT_START, flags=0x00, events=0x00), ACCEPTED
+
+
 # ---- 01, "Frame" (payloads) and "Numbers that a refusal carries" (their order) ---------------
 
 
@@ -198,6 +394,53 @@ def validate_payload(payload):
     if sets_value and not accepts(item.code, payload[value_start:]):
         return VALUE_NOT_ACCEPTED
     return ACCEPTED
+
+
+# ---- 01, "Frame" (answers) -------------------------------------------------------------------
+
+RESPONSE_BUFFER = 22  # the least length of the response buffer
+ACKNOWLEDGED = 0xC0
+READ_RESPONSE = 0xC1
+READ_NV_RESPONSE = 0xC2
+
+
+def perform(state, payload):
+    """State afterwards and response's payload of a payload that is accepted."""
+    command = payload[0]
+    if command == SET_DEFAULT:
+        return set_default(state), bytes([ACKNOWLEDGED, 0x00]) + payload
+    if command == ERASE_ALL_ADDRESSES:
+        return erase_all_addresses(state), bytes([ACKNOWLEDGED, 0x00]) + payload
+    item = payload[1]
+    value_start = 3 if ITEMS[item].indexed else 2
+    index = payload[2] if ITEMS[item].indexed else None
+    if command in (WRITE, PROGRAM):
+        after = store_value(state, command, item, index, payload[value_start:])
+        return after, bytes([ACKNOWLEDGED, 0x00]) + payload
+    code = READ_RESPONSE if command == READ else READ_NV_RESPONSE
+    return state, bytes([code]) + payload[1:] + read_value(state, command, item, index)
+
+
+def execute(state, block, response):
+    """State afterwards, refusal, response's length and the whole response buffer afterwards.
+
+    1, 2, then those of the frame, then those of the payload. Bytes after the response stay, and
+    a refusal changes nothing.
+    """
+    if len(response) < RESPONSE_BUFFER:
+        return state, RESPONSE_BUFFER_SHORT, 0, response
+    if not is_valid(state):
+        return state, INVALID, 0, response
+    refusal, start, length = read_frame(block)
+    if refusal != ACCEPTED:
+        return state, refusal, 0, response
+    payload = block[start : start + length]
+    refusal = validate_payload(payload)
+    if refusal != ACCEPTED:
+        return state, refusal, 0, response
+    after, answer = perform(state, payload)
+    written = bytes([FRAME_START, WAKES_END, LENGTH_BASE + len(answer)]) + answer
+    return after, ACCEPTED, len(written), written + response[len(written) :]
 
 
 # ---- 01, "Readout and percent" ---------------------------------------------------------------
@@ -281,3 +524,34 @@ def format_refused(refusal):
 def format_not_hex():
     """The printed line of a line that is no block."""
     return "not hex\n"
+
+
+# ---- 01, "Examples", the replay program ------------------------------------------------------
+
+
+def split_lines(log):
+    """The lines of an input, each without its line feed; the last one may lack it."""
+    lines = log.split(b"\n")
+    # what stands behind the last line feed is a line if it has a character
+    return lines if lines[-1] else lines[:-1]
+
+
+def replay_line(state, line):
+    """State afterwards and printed line of one line; each block has its own response buffer."""
+    block = parse_line(line)
+    if block is None:
+        return state, format_not_hex()
+    state, refusal, length, response = execute(state, block, bytes(RESPONSE_BUFFER))
+    if length == 0:
+        return state, format_refused(refusal)
+    return state, format_block(response[:length])
+
+
+def replay(log):
+    """What the replay program prints for a whole input, as bytes."""
+    state = FACTORY_STATE
+    printed = []
+    for line in split_lines(log):
+        state, text = replay_line(state, line)
+        printed.append(text)
+    return "".join(printed).encode("ascii")

@@ -10,11 +10,11 @@ ghost use Rattle.logic.specs.Written.{written};
 ghost use Rattle.hex_text.specs.Hex.{isDigit, isPair, digitValue, pairValue, isBlock, pairs, hexLine, lineAnswer, lineWritten, digitOf, hexText, refusedText, notHexText, printed, lengthIn, writtenIn};
 
 // The most characters of a line of hex.
-const LINE_MAX: usize = 600;
+pub const LINE_MAX: usize = 600;
 
 const SPACE: u8 = b' ';
 
-const LINE_FEED: u8 = b'\n';
+pub const LINE_FEED: u8 = b'\n';
 
 // What a letter is above the number that it stands for.
 const LETTERS: u8 = b'A' - 10;

@@ -1,0 +1,4 @@
+pub mod Printed
+pub mod Read
+pub mod Lines
+pub mod Kept

@@ -1,0 +1,1027 @@
+#!/usr/bin/env python3
+"""Compares the replay program with reference.py, byte by byte, on generated logs.
+
+Each case starts the program anew, from the factory state, with the log as a file or through a
+pipe. The whole output, an exit status of 0 and an empty standard error are compared. The first
+difference ends the run with exit status 1. Another program may be named as the argument.
+"""
+
+import collections
+import fcntl
+import itertools
+import os
+import pathlib
+import random
+import re
+import struct
+import subprocess
+import sys
+import tempfile
+import termios
+import time
+
+sys.dont_write_bytecode = True  # leaves no files beside the tests
+
+import reference
+from reference import ERASE_ALL_ADDRESSES, PROGRAM, READ, READ_NV, SET_DEFAULT, WRITE
+
+ROOT = pathlib.Path(__file__).resolve().parent.parent
+REPLAY = ROOT / "target" / "bin" / "replay"
+SEED = 20240002
+PATIENCE = 60  # seconds that a single run of the program may take
+
+
+class Problem(Exception):
+    """The program can't be run, or it differs from the reference."""
+
+
+# ---- Running the program ---------------------------------------------------------------------
+
+Run = collections.namedtuple("Run", "output errors status")
+
+
+def run_on_file(program, log):
+    """Runs the program with the log as a file, which it can read in pieces as large as it asks."""
+    with tempfile.TemporaryFile() as given:
+        given.write(log)
+        given.seek(0)
+        done = subprocess.run([program], stdin=given, capture_output=True, timeout=PATIENCE)
+    return Run(done.stdout, done.stderr, done.returncode)
+
+
+def bytes_waiting(pipe):
+    """How many bytes lie in a pipe and haven't been read."""
+    return struct.unpack("i", fcntl.ioctl(pipe, termios.FIONREAD, bytes(4)))[0]
+
+
+def wait_until_taken(process):
+    """Waits until the program has emptied the pipe, so that the next write is a separate read."""
+    deadline = time.monotonic() + PATIENCE
+    while bytes_waiting(process.stdin) > 0 and process.poll() is None:
+        if time.monotonic() > deadline:
+            raise subprocess.TimeoutExpired(process.args, PATIENCE)
+        time.sleep(0)
+
+
+def write_in_pieces(process, log, size):
+    """Hands the log over in writes of the given size; the program may have ended before."""
+    try:
+        for start in range(0, len(log), size):
+            process.stdin.write(log[start : start + size])
+            wait_until_taken(process)
+    except BrokenPipeError:
+        pass  # the comparison tells what is missing in the output
+    process.stdin.close()
+
+
+def run_on_pieces(program, log, size):
+    """Runs the program with the log through a pipe, in pieces that it has to take one by one."""
+    with tempfile.TemporaryFile() as output, tempfile.TemporaryFile() as errors:
+        process = subprocess.Popen(
+            [program], stdin=subprocess.PIPE, stdout=output, stderr=errors, bufsize=0
+        )
+        try:
+            write_in_pieces(process, log, size)
+            status = process.wait(timeout=PATIENCE)
+        finally:
+            process.kill()
+            process.wait()
+        output.seek(0)
+        errors.seek(0)
+        return Run(output.read(), errors.read(), status)
+
+
+# ---- Comparing -------------------------------------------------------------------------------
+
+
+def show(line):
+    """A line as text on one line, a very long one cut."""
+    if line is None:
+        return "no line"
+    text = f"{len(line)} bytes {line!r}"
+    return text if len(text) <= 1000 else text[:1000] + " ... (cut)"
+
+
+def first_difference(log, expected, output):
+    """Number, input line, expected line and printed line where two outputs part.
+
+    The lines keep their line feeds, so that a missing one is a difference too.
+    """
+    texts = (re.findall(rb"[^\n]*\n|[^\n]+", text) for text in (log, expected, output))
+    for number, lines in enumerate(itertools.zip_longest(*texts), 1):
+        if lines[1] != lines[2]:
+            return number, *lines
+
+
+def difference(name, log, expected, output):
+    """What is told of a case whose output differs."""
+    number, given, wanted, printed = first_difference(log, expected, output)
+    return "\n".join(
+        (
+            f"difference in {name}, line {number}",
+            f"  input:    {show(given)}",
+            f"  expected: {show(wanted)}",
+            f"  came:     {show(printed)}",
+        )
+    )
+
+
+class Comparison:
+    """Runs the program on logs, compares what it prints and counts what was seen."""
+
+    def __init__(self, program):
+        self.program = program
+        self.lines = 0
+        self.bytes = 0
+        self.not_hex = 0
+        self.refused = collections.Counter()  # by number
+        self.accepted = collections.Counter()  # by command and item
+
+    def log(self, name, log):
+        """Compares one run on a log as a file."""
+        self.compare(name, log, reference.replay(log), run_on_file(self.program, log))
+
+    def pieces(self, name, log, sizes):
+        """Compares a run on a log as a file with runs through a pipe, in pieces of each size."""
+        expected = reference.replay(log)
+        self.compare(f"{name}, as a file", log, expected, run_on_file(self.program, log))
+        for size in sizes:
+            run = run_on_pieces(self.program, log, size)
+            self.compare(f"{name}, in pieces of {size}", log, expected, run)
+
+    def literal(self, name, log, expected):
+        """Compares one run with an output known from the paper, which the reference gives too."""
+        by_reference = reference.replay(log)
+        if by_reference != expected:
+            raise Problem("the reference: " + difference(name, log, expected, by_reference))
+        self.compare(name, log, expected, run_on_file(self.program, log))
+
+    def compare(self, name, log, expected, run):
+        """Raises a Problem if a run differs in any respect; otherwise it counts."""
+        if run.output != expected:
+            raise Problem(difference(name, log, expected, run.output))
+        if run.errors != b"":
+            raise Problem(f"standard error is not empty in {name}: {show(run.errors)}")
+        if run.status != 0:
+            raise Problem(f"exit status {run.status} in {name}")
+        self.count(log, run.output)
+
+    def count(self, log, output):
+        """Counts lines and outcomes by what was printed: C1 and C2 come before the item, C0 and
+        00 before the command and the item."""
+        printed = output.decode("ascii").splitlines()
+        self.lines += len(printed)
+        self.bytes += len(log)
+        for line in printed:
+            words = line.split(" ")
+            if words[0] == "refused":
+                self.refused[int(words[1])] += 1
+            elif words[0] == "not":
+                self.not_hex += 1
+            else:
+                shown = words[3:] if words[3] in ("C1", "C2") else words[5:]
+                code = {"C1": READ, "C2": READ_NV}.get(shown[0]) or int(shown[0], 16)
+                item = int(shown[1], 16) if len(shown) > 1 else None
+                self.accepted[code, item] += 1
+
+
+# ---- Lines and logs --------------------------------------------------------------------------
+
+
+def text_of(block):
+    """A block as a line of a log, without its line feed."""
+    return block.hex(" ").upper().encode("ascii")
+
+
+def frame(payload, wake=0):
+    """A frame by the paper's sentence, with any wake count and payload."""
+    return b"\x80" + wake * b"\xff" + b"\x55" + bytes([0x80 + len(payload)]) + payload
+
+
+def command(code, *parts, wake=0):
+    """The line of a command; its parts are bytes or single byte values."""
+    payload = bytes([code])
+    for part in parts:
+        payload += part if isinstance(part, bytes) else bytes([part])
+    return text_of(frame(payload, wake))
+
+
+def log_of(lines):
+    """A log with a line feed behind each line."""
+    return b"".join(line + b"\n" for line in lines)
+
+
+ONE_BYTE_SETTINGS = (0x11, 0x12, 0x13, 0x14, 0x15, 0x25)
+INPUTS = (1, 2)
+SLOTS = range(40)
+
+
+def dump():
+    """Lines that show every cell that a command can show, with Read and with Read NV."""
+    once = (0x01, 0x02, 0x03, 0x10, 0x11, 0x12, 0x13, 0x14, 0x15)
+    lines = [command(READ, item) for item in (*once, 0x20, 0x21, 0x22, 0x23, 0x25, 0x26)]
+    lines += [command(READ_NV, item) for item in once]
+    for code in (READ, READ_NV):
+        lines += [command(code, 0x16, number) for number in INPUTS]
+        lines += [command(code, 0x18, index) for index in SLOTS]
+    return lines
+
+
+def slot_value(index, variant=0):
+    """A slot's value that no other slot and no other variant has."""
+    return bytes([index + 1, 0x40 + index, 0x80 + variant, 0xFF - index, 0xC0 + index])
+
+
+def fill_cells():
+    """Lines after which every cell that a command can store differs from its default and from its
+    other copy."""
+    lines = [command(PROGRAM, 0x10, b"\xa1\xa2\xa3\xa4")]
+    pairs = ((0x91, 0x92), (0x93, 0x94), (0xEC, 0x0A), (0x1F, 0x19), (0x05, 0x03), (0x95, 0x96))
+    for item, (nonvolatile, working) in zip(ONE_BYTE_SETTINGS, pairs):
+        lines += [command(PROGRAM, item, nonvolatile), command(WRITE, item, working)]
+    for number in INPUTS:
+        lines.append(command(PROGRAM, 0x16, number, 0x03 + number, 0x0F, 0x01, 0x12, number))
+        lines.append(command(WRITE, 0x16, number, 0x05 + number, 0x10, 0x00, 0x34, number))
+    return lines + [command(PROGRAM, 0x18, index, slot_value(index)) for index in SLOTS]
+
+
+def guarded(lines):
+    """A log of lines that run on filled cells, and show afterwards what became of them."""
+    return log_of(fill_cells() + list(lines) + dump())
+
+
+# ---- Examples of document 01 -----------------------------------------------------------------
+
+# The block examples: from the factory state, what is handed in and what is printed.
+EXAMPLES = (
+    (("80 55 82 01 15", "80 55 83 C1 15 00"),),
+    (("80 FF FF 55 82 01 15", "80 55 83 C1 15 00"),),
+    (("80" + 16 * " FF" + " 55 82 01 15", "80 55 83 C1 15 00"),),
+    (("80" + 17 * " FF" + " 55 82 01 15", "refused 4"),),
+    (
+        ("80 55 83 04 15 06", "80 55 85 C0 00 04 15 06"),
+        ("80 55 82 03 15", "80 55 83 C2 15 06"),
+        ("80 55 82 01 15", "80 55 83 C1 15 06"),
+    ),
+    (("80 55 83 02 15 07", "refused 12"),),
+    (("80 55 82 03 25", "refused 10"),),
+    (("80 55 83 02 13 EC", "80 55 85 C0 00 02 13 EC"),),
+    (("80 55 83 02 13 EB", "refused 12"),),
+    (("80 55 83 02 13 0A", "80 55 85 C0 00 02 13 0A"),),
+    (("80 55 83 02 13 0B", "refused 12"),),
+    (("80 55 81 82", "80 55 83 C0 00 82"),),
+    (("80 55 81 01", "refused 8"),),
+    (("80 55 88 04 18 27 01 02 03 04 05", "80 55 8A C0 00 04 18 27 01 02 03 04 05"),),
+    (("80 55 88 04 18 28 01 02 03 04 05", "refused 11"),),
+    (("80 55 88 04 18 27 00 00 00 00 01", "refused 12"),),
+    (("80 55 83 01 16 02", "80 55 88 C1 16 02 FF 01 00 00 00"),),
+    (("80 55 83 01 16 00", "refused 11"),),
+    (("80 55 83 01 16 03", "refused 11"),),
+    (("80 55 82 01 18", "refused 8"),),
+    (("", "refused 3"),),
+    (("80", "refused 3"),),
+    (("81", "refused 4"),),
+    (("80 55 80", "refused 5"),),
+    (("80 55 82 01", "refused 3"),),
+    (("80 55 82 01 15 00", "refused 6"),),
+    (("80 55 82 05 15", "refused 7"),),
+    (("80 55 82 01 17", "refused 9"),),
+    (
+        ("80 55 82 01 15", "80 55 83 C1 15 00"),
+        ("80 55 83 02 15 03", "80 55 85 C0 00 02 15 03"),
+        ("80 55 83 02 15 07", "refused 12"),
+        ("80 55 82 01 15", "80 55 83 C1 15 03"),
+        ("80 55 82 03 25", "refused 10"),
+    ),
+)
+
+# What every item answers in the factory state.
+FACTORY_READS = (
+    ("80 55 82 01 01", "80 55 83 C1 01 00"),
+    ("80 55 82 01 02", "80 55 85 C1 02 00 00 00"),
+    ("80 55 82 01 03", "80 55 86 C1 03 00 00 00 00"),
+    ("80 55 82 01 10", "80 55 86 C1 10 00 00 00 00"),
+    ("80 55 82 01 11", "80 55 83 C1 11 00"),
+    ("80 55 82 01 12", "80 55 83 C1 12 00"),
+    ("80 55 82 01 13", "80 55 83 C1 13 00"),
+    ("80 55 82 01 14", "80 55 83 C1 14 06"),
+    ("80 55 82 01 15", "80 55 83 C1 15 00"),
+    ("80 55 83 01 16 01", "80 55 88 C1 16 01 FF 01 00 00 00"),
+    ("80 55 83 01 16 02", "80 55 88 C1 16 02 FF 01 00 00 00"),
+    ("80 55 83 01 18 00", "80 55 88 C1 18 00 00 00 00 00 00"),
+    ("80 55 83 01 18 27", "80 55 88 C1 18 27 00 00 00 00 00"),
+    ("80 55 82 01 20", "80 55 84 C1 20 00 00"),
+    ("80 55 82 01 21", "80 55 84 C1 21 80 80"),
+    ("80 55 82 01 22", "80 55 83 C1 22 00"),
+    ("80 55 82 01 23", "80 55 86 C1 23 00 00 00 00"),
+    ("80 55 82 01 25", "80 55 83 C1 25 00"),
+    ("80 55 82 01 26", "80 55 83 C1 26 00"),
+    ("80 55 82 03 01", "80 55 83 C2 01 00"),
+    ("80 55 82 03 02", "80 55 85 C2 02 00 00 00"),
+    ("80 55 82 03 03", "80 55 86 C2 03 00 00 00 00"),
+    ("80 55 82 03 10", "80 55 86 C2 10 00 00 00 00"),
+    ("80 55 82 03 11", "80 55 83 C2 11 00"),
+    ("80 55 82 03 12", "80 55 83 C2 12 00"),
+    ("80 55 82 03 13", "80 55 83 C2 13 00"),
+    ("80 55 82 03 14", "80 55 83 C2 14 06"),
+    ("80 55 82 03 15", "80 55 83 C2 15 00"),
+    ("80 55 83 03 16 01", "80 55 88 C2 16 01 FF 01 00 00 00"),
+    ("80 55 83 03 16 02", "80 55 88 C2 16 02 FF 01 00 00 00"),
+    ("80 55 83 03 18 00", "80 55 88 C2 18 00 00 00 00 00 00"),
+    ("80 55 83 03 18 27", "80 55 88 C2 18 27 00 00 00 00 00"),
+    ("80 55 82 03 20", "refused 10"),
+    ("80 55 82 03 21", "refused 10"),
+    ("80 55 82 03 22", "refused 10"),
+    ("80 55 82 03 23", "refused 10"),
+    ("80 55 82 03 25", "refused 10"),
+    ("80 55 82 03 26", "refused 10"),
+)
+
+# Item 01 in the factory state has one byte, the 00; it can't be stored.
+NAME_RUN = (
+    ("80 55 82 01 01", "80 55 83 C1 01 00"),
+    ("80 55 83 01 01 00", "refused 8"),
+    ("80 55 83 02 01 41", "refused 10"),
+    ("80 55 93 04 01" + 17 * " 41", "refused 10"),
+    ("80 55 82 02 01", "refused 10"),
+    ("80 55 82 03 01", "80 55 83 C2 01 00"),
+    ("80 55 82 01 01", "80 55 83 C1 01 00"),
+)
+
+# Item 23: power, line mask and latch mask go by bits 0, 3 and 4 of the working control word.
+STATUS_RUN = (
+    ("80 55 83 02 13 F6", "80 55 85 C0 00 02 13 F6"),
+    ("80 55 83 02 11 A5", "80 55 85 C0 00 02 11 A5"),
+    ("80 55 83 02 12 5A", "80 55 85 C0 00 02 12 5A"),
+    ("80 55 82 01 23", "80 55 86 C1 23 00 00 00 00"),
+    ("80 55 83 02 14 01", "80 55 85 C0 00 02 14 01"),
+    ("80 55 82 01 23", "80 55 86 C1 23 00 F6 00 00"),
+    ("80 55 83 02 14 08", "80 55 85 C0 00 02 14 08"),
+    ("80 55 82 01 23", "80 55 86 C1 23 00 00 A5 00"),
+    ("80 55 83 02 14 10", "80 55 85 C0 00 02 14 10"),
+    ("80 55 82 01 23", "80 55 86 C1 23 00 00 00 5A"),
+    ("80 55 83 04 14 19", "80 55 85 C0 00 04 14 19"),
+    ("80 55 82 01 23", "80 55 86 C1 23 00 F6 A5 5A"),
+    ("80 55 83 02 25 FF", "80 55 85 C0 00 02 25 FF"),
+    ("80 55 82 01 23", "80 55 86 C1 23 00 F6 A5 5A"),
+    ("80 55 83 02 14 39", "refused 12"),
+    ("80 55 83 01 23 00", "refused 8"),
+    ("80 55 82 03 23", "refused 10"),
+    ("80 55 83 04 11 11", "80 55 85 C0 00 04 11 11"),
+    ("80 55 82 01 23", "80 55 86 C1 23 00 F6 11 5A"),
+    ("80 55 83 02 14 06", "80 55 85 C0 00 02 14 06"),
+    ("80 55 82 01 23", "80 55 86 C1 23 00 00 00 00"),
+    ("80 55 81 81", "80 55 83 C0 00 81"),
+    ("80 55 83 02 14 1F", "80 55 85 C0 00 02 14 1F"),
+    ("80 55 82 01 23", "80 55 86 C1 23 00 00 00 00"),
+)
+
+# Write, Program, Set Default and Erase over the two copies, the rows and the slots.
+STORE_RUN = (
+    ("80 55 88 04 16 01 04 10 01 80 00", "80 55 8A C0 00 04 16 01 04 10 01 80 00"),
+    ("80 55 88 02 16 02 FE 02 00 7F FF", "80 55 8A C0 00 02 16 02 FE 02 00 7F FF"),
+    ("80 55 83 01 16 01", "80 55 88 C1 16 01 04 10 01 80 00"),
+    ("80 55 83 03 16 01", "80 55 88 C2 16 01 04 10 01 80 00"),
+    ("80 55 83 01 16 02", "80 55 88 C1 16 02 FE 02 00 7F FF"),
+    ("80 55 83 03 16 02", "80 55 88 C2 16 02 FF 01 00 00 00"),
+    ("80 55 86 04 10 FF FF FF FF", "80 55 88 C0 00 04 10 FF FF FF FF"),
+    ("80 55 88 04 18 00 FF FF FF FF 00", "80 55 8A C0 00 04 18 00 FF FF FF FF 00"),
+    ("80 55 88 04 18 27 01 02 03 04 05", "80 55 8A C0 00 04 18 27 01 02 03 04 05"),
+    ("80 55 88 02 18 00 01 02 03 04 05", "refused 10"),
+    ("80 55 83 03 18 00", "80 55 88 C2 18 00 FF FF FF FF 00"),
+    ("80 55 88 04 18 00 00 00 00 00 00", "80 55 8A C0 00 04 18 00 00 00 00 00 00"),
+    ("80 55 83 01 18 00", "80 55 88 C1 18 00 00 00 00 00 00"),
+    ("80 55 83 04 25 21", "80 55 85 C0 00 04 25 21"),
+    ("80 55 81 81", "80 55 83 C0 00 81"),
+    ("80 55 83 03 16 01", "80 55 88 C2 16 01 FF 01 00 00 00"),
+    ("80 55 83 01 16 02", "80 55 88 C1 16 02 FF 01 00 00 00"),
+    ("80 55 82 01 25", "80 55 83 C1 25 00"),
+    ("80 55 82 01 10", "80 55 86 C1 10 FF FF FF FF"),
+    ("80 55 83 01 18 27", "80 55 88 C1 18 27 01 02 03 04 05"),
+    ("80 55 82 82 00", "refused 8"),
+    ("80 55 83 81 AB 7E", "refused 8"),
+    ("80 55 83 01 18 27", "80 55 88 C1 18 27 01 02 03 04 05"),
+    ("80 55 81 82", "80 55 83 C0 00 82"),
+    ("80 55 83 03 18 27", "80 55 88 C2 18 27 00 00 00 00 00"),
+    ("80 55 82 03 10", "80 55 86 C2 10 FF FF FF FF"),
+)
+
+# Blocks that break several rules at once: the first by the paper's order is told.
+ORDER_RUN = (
+    ("81 55 80", "refused 4"),  # the frame's bytes from the left
+    ("80 54 80", "refused 4"),
+    ("80 55 00 01", "refused 5"),
+    ("80 55 83 05", "refused 3"),  # the frame before the payload
+    ("80 55 81 05 15", "refused 6"),
+    ("80 55 81 05", "refused 7"),  # the command before its missing item
+    ("80 55 82 05 17", "refused 7"),
+    ("80 55 81 83", "refused 7"),
+    ("80 55 81 04", "refused 8"),  # a missing item
+    ("80 55 82 81 15", "refused 8"),
+    ("80 55 84 02 17 00 00", "refused 9"),  # the item before the length
+    ("80 55 82 02 01", "refused 10"),  # the permission before the length
+    ("80 55 84 04 26 00 00", "refused 10"),
+    ("80 55 83 02 18 28", "refused 10"),  # the permission before the index
+    ("80 55 82 01 16", "refused 8"),  # the length before the index
+    ("80 55 84 01 16 03 00", "refused 8"),
+    ("80 55 87 04 18 28 00 00 00 00", "refused 8"),
+    ("80 55 84 02 15 07 00", "refused 8"),  # the length before the value
+    ("80 55 88 04 18 28 00 00 00 00 01", "refused 11"),  # the index before the value
+    ("80 55 88 02 16 00 03 00 02 00 00", "refused 11"),
+    ("80 55 88 02 16 01 03 00 02 00 00", "refused 12"),
+)
+
+# Lines and their line feeds; what is no line feed or space belongs to the line.
+FORM_EXAMPLES = (
+    ("", ""),
+    ("\n", "refused 3\n"),
+    ("\n\n", "refused 3\nrefused 3\n"),
+    ("80", "refused 3\n"),
+    ("80\n", "refused 3\n"),
+    ("80\n\n", "refused 3\nrefused 3\n"),
+    (" ", "not hex\n"),
+    (" \n", "not hex\n"),
+    ("80\r\n", "not hex\n"),
+    ("80 ", "not hex\n"),
+    ("80  55", "not hex\n"),
+    ("8 0", "not hex\n"),
+    ("8055", "not hex\n"),
+    ("80 5a", "not hex\n"),
+    ("00" + 199 * " 00", "refused 4\n"),  # 599 characters
+    ("00" + 199 * " 00" + " ", "not hex\n"),
+    ("00" + 200 * " 00", "not hex\n"),  # 602 characters
+)
+
+
+def check_examples(compare, rng):
+    """The paper's examples, as the paper prints them, each in a run of its own."""
+    for number, run in enumerate(EXAMPLES, 1):
+        given = log_of(line.encode("ascii") for line, _ in run)
+        printed = log_of(line.encode("ascii") for _, line in run)
+        compare.literal(f"example {number}", given, printed)
+        if given != b"\n":  # which is the blank line; without it there is none
+            compare.literal(f"example {number} without last line feed", given[:-1], printed)
+
+
+def check_closed_runs(compare, rng):
+    """Runs whose output was worked out by hand."""
+    runs = {
+        "factory reads": FACTORY_READS,
+        "name": NAME_RUN,
+        "status": STATUS_RUN,
+        "stores": STORE_RUN,
+        "order of refusals": ORDER_RUN,
+    }
+    for name, run in runs.items():
+        given = log_of(line.encode("ascii") for line, _ in run)
+        compare.literal(name, given, log_of(line.encode("ascii") for _, line in run))
+    for given, printed in FORM_EXAMPLES:
+        compare.literal("forms of a line", given.encode("ascii"), printed.encode("ascii"))
+
+
+# ---- Commands, items, indexes and values -----------------------------------------------------
+
+
+def check_commands(compare, rng):
+    """Each command code, alone and with more bytes: first those of a served item, then others."""
+    tail = b"\x15\x03\x01\x02\x03\x04\x05\x06"
+    for high in range(16):
+        lines = []
+        for code in range(16 * high, 16 * high + 16):
+            lines += [command(code, tail[:size]) for size in range(len(tail) + 1)]
+            lines += [command(code, rng.randbytes(size)) for size in (1, 2, 6, 7, 126)]
+        compare.log(f"commands {high:X}0 to {high:X}F", guarded(lines))
+
+
+def check_items(compare, rng):
+    """Each item code with each command, in lengths around those that some command has."""
+    for code in (READ, WRITE, READ_NV, PROGRAM):
+        lines = []
+        for item in range(256):
+            known = reference.ITEMS.get(item)
+            longest = 2 + known.indexed + known.value_bytes + 2 if known else 4
+            payload = bytes([item, 0x01]) + bytes(rng.randrange(1, 6) for _ in range(longest))
+            lines += [command(code, payload[:size]) for size in range(1, longest)]
+        compare.log(f"items with command {code:02X}", guarded(lines))
+
+
+# Items of each kind, each with a value that is accepted and one that isn't, if there are such.
+GOOD_AND_BAD = {
+    0x01: ("41 00",),
+    0x10: ("00 00 00 00",),
+    0x13: ("0A", "0B"),
+    0x15: ("06", "07"),
+    0x16: ("05 01 00 00 00", "05 00 00 00 00"),
+    0x17: ("00",),
+    0x18: ("01 00 00 00 00", "00 00 00 00 01"),
+    0x25: ("FF",),
+    0x26: ("00",),
+}
+
+
+def check_broken_rules(compare, rng):
+    """Each command with good and bad items, indexes, values and lengths in every combination."""
+    lines = []
+    for (item, values), code in itertools.product(GOOD_AND_BAD.items(), range(6)):
+        indexes = (b"",)
+        if item in (0x16, 0x18):
+            indexes = (b"\x00", b"\x01", b"\x02", b"\x03", b"\x27", b"\x28", b"\xff")
+        for index, value in itertools.product(indexes, values):
+            payload = bytes([item]) + index + bytes.fromhex(value) + b"\x01\x00"
+            lines += [command(code, payload[:size]) for size in range(len(payload) + 1)]
+    compare.log("broken rules", guarded(lines))
+
+
+def check_indexes(compare, rng):
+    """Each index byte of 16 and 18, with each command, up, down and in a random order."""
+    orders = [range(256), range(255, -1, -1), rng.sample(range(256), 256)]
+    for variant, order in enumerate(orders):
+        lines = []
+        for index in order:
+            row = bytes([0x04 + index % 4, 0x10 - index % 16, 0x01, index, variant])
+            for code in (WRITE, READ, READ_NV, PROGRAM, READ, READ_NV):
+                value = code in (WRITE, PROGRAM)
+                lines.append(command(code, 0x16, index, row if value else b""))
+                slot = bytes([index, variant + 1, 0x55, 0xAA, 0xFF - index])
+                lines.append(command(code, 0x18, index, slot if value else b""))
+        compare.log(f"indexes, order {variant + 1}", guarded(lines))
+        slots = [command(PROGRAM, 0x18, i, slot_value(i, variant)) for i in order if i < 40]
+        compare.log(f"slots, order {variant + 1}", guarded(slots))
+
+
+def check_neighbours(compare, rng):
+    """Each cell that a command stores, alone, on otherwise untouched cells: all of them are shown
+    afterwards."""
+    for item in ONE_BYTE_SETTINGS:
+        for code in (WRITE, PROGRAM):
+            compare.log(f"item {item:02X} alone", log_of([command(code, item, 0x01)] + dump()))
+    for number, code in itertools.product(INPUTS, (WRITE, PROGRAM)):
+        line = command(code, 0x16, number, b"\x07\x10\x01\x12\x34")
+        compare.log(f"row {number} alone", log_of([line] + dump()))
+    for index in (0, 1, 2, 19, 38, 39):
+        line = command(PROGRAM, 0x18, index, slot_value(index))
+        compare.log(f"slot {index} alone", log_of([line] + dump()))
+    compare.log("address alone", log_of([command(PROGRAM, 0x10, b"\x01\x02\x03\x04")] + dump()))
+    for code in (SET_DEFAULT, ERASE_ALL_ADDRESSES):
+        compare.log(f"command {code:02X} alone", guarded([command(code)]))
+
+
+def check_one_byte_values(compare, rng):
+    """Each value of each one-byte item, by Write and by Program, shown by Read and Read NV."""
+    for item in ONE_BYTE_SETTINGS:
+        lines = []
+        for value in range(256):
+            for code, given in ((WRITE, value), (PROGRAM, value), (WRITE, 255 - value)):
+                lines += [command(code, item, given), command(READ, item), command(READ_NV, item)]
+        compare.log(f"values of item {item:02X}", guarded(lines))
+
+
+def analog_input_values():
+    """Values of 16: each byte of channel, readings and reference by itself, then the edges of all
+    of them together."""
+    for byte in range(256):
+        yield bytes([byte, 0x01, 0x00, 0x00, byte])
+        yield bytes([0x04, byte, 0x01, byte, 0x00])
+        yield bytes([0xFE, 0x10, byte, 0xFF, byte])
+    channels = (0x00, 0x03, 0x04, 0x05, 0x06, 0x07, 0x08, 0xFD, 0xFE, 0xFF)
+    for first_three in itertools.product(channels, (0, 1, 2, 15, 16, 17, 255), (0, 1, 2, 255)):
+        for offset in (b"\x00\x00", b"\x7f\xff", b"\x80\x00", b"\xff\xff"):
+            yield bytes(first_three) + offset
+
+
+def check_analog_input_values(compare, rng):
+    """Each of them stored in one row by Write or Program; the other row is looked at too."""
+    lines = []
+    for value in analog_input_values():
+        number = rng.choice(INPUTS)
+        lines.append(command(rng.choice((WRITE, PROGRAM)), 0x16, number, value))
+        lines += [command(READ, 0x16, number), command(READ_NV, 0x16, number)]
+        lines.append(command(rng.choice((READ, READ_NV)), 0x16, 3 - number))
+    compare.log("values of analog inputs", guarded(lines))
+
+
+def check_slot_values(compare, rng):
+    """The zero address, all ones, and addresses with one byte set, with masks of each kind."""
+    values = [bytes(4) + bytes([mask]) for mask in range(256)]
+    values += [b"\xff\xff\xff\xff" + bytes([mask]) for mask in (0x00, 0x01, 0xFF)]
+    for place, byte, mask in itertools.product(range(4), (0x01, 0x80, 0xFF), (0x00, 0x01, 0xFF)):
+        values.append(bytes([byte if at == place else 0 for at in range(4)] + [mask]))
+    lines = []
+    for number, value in enumerate(values + values[::-1]):
+        index = number % 40
+        lines += [command(PROGRAM, 0x18, index, value), command(READ, 0x18, index)]
+        lines.append(command(READ_NV, 0x18, index))
+    compare.log("values of slots", guarded(lines))
+
+
+def check_addresses(compare, rng):
+    """Item 10 takes every address; its single cell is shown by both reads."""
+    lines = []
+    for place, byte in itertools.product(range(4), range(0, 256, 5)):
+        value = bytes([byte if at == place else rng.randrange(256) for at in range(4)])
+        lines += [command(PROGRAM, 0x10, value), command(READ, 0x10), command(READ_NV, 0x10)]
+    compare.log("addresses", guarded(lines))
+
+
+def check_status(compare, rng):
+    """Item 23 after each control word, with values that differ from those of the hardware."""
+    read = command(READ, 0x23)
+    lines = []
+    for control, code in itertools.product(range(32), (WRITE, PROGRAM)):
+        values = [(0x11, 0x40 + control), (0x12, 0x80 + control), (0x13, 1 + control % 10)]
+        values += [(0x25, 0xFF), (0x14, control)]
+        lines += [command(code, item, value) for item, value in values]
+        lines += [read, command(WRITE, 0x11, 0xE0 + control), read]
+        lines += [command(PROGRAM, 0x13, 0xEC + control % 20), read]
+        lines += [command(ERASE_ALL_ADDRESSES), read, command(READ, 0x14), command(READ_NV, 0x14)]
+        lines += [command(SET_DEFAULT), read]
+        lines += [command(code, 0x14, control), read, command(WRITE, 0x12, 0x77), read]
+        lines.append(command(PROGRAM, 0x18, control, slot_value(control, 1)))
+        if control % 8 == 7:
+            lines += dump()
+    compare.log("status", guarded(lines))
+
+
+# ---- Frames ----------------------------------------------------------------------------------
+
+FRAME_PAYLOADS = tuple(
+    bytes.fromhex(text)
+    for text in ("81", "01 15", "02 15 03", "04 18 27 01 02 03 04 05", "01 16 02", "05 15", "01 17")
+)
+
+
+def check_wakes(compare, rng):
+    """Each number of wake bytes, alone, with the next byte, and with the rest of a frame."""
+    lines = []
+    for wake in range(20):
+        start = b"\x80" + wake * b"\xff"
+        blocks = [start, start + b"\x55", start + b"\x54", start + b"\x55\x80", start + b"\x55\x82"]
+        blocks += [frame(payload, wake) for payload in FRAME_PAYLOADS]
+        blocks += [start + b"\x00" + frame(b"\x01\x15"), start + b"\x55" + frame(b"\x01\x15")]
+        lines += map(text_of, blocks)
+    compare.log("wake bytes", guarded(lines))
+
+
+def check_damaged_frames(compare, rng):
+    """Frames that are cut, lengthened, or lack or repeat one byte."""
+    lines = []
+    for payload, wake in itertools.product(FRAME_PAYLOADS, (0, 1, 2, 15, 16, 17)):
+        whole = frame(payload, wake)
+        blocks = [whole[:size] for size in range(len(whole) + 1)]
+        blocks += [whole + bytes(size) for size in (1, 2, 100)] + [whole + whole, whole + b"\xff"]
+        for place in range(len(whole)):
+            blocks.append(whole[:place] + whole[place + 1 :])
+            blocks.append(whole[:place] + whole[place : place + 1] + whole[place:])
+        lines += map(text_of, blocks)
+    compare.log("damaged frames", guarded(lines))
+
+
+def check_frame_bytes(compare, rng):
+    """Each byte in the place of the first, of a wake byte and of 55."""
+    blocks = []
+    for byte, wake in itertools.product(range(256), (0, 1, 15, 16)):
+        whole = frame(b"\x01\x15", wake)
+        for place in {0, 1, wake, wake + 1}:
+            blocks.append(whole[:place] + bytes([byte]) + whole[place + 1 :])
+        blocks.append(whole[: wake + 1] + bytes([byte]))
+        blocks.append(bytes([byte]))
+    compare.log("bytes of a frame's start", guarded(map(text_of, blocks)))
+
+
+def check_length_bytes(compare, rng):
+    """Each length byte with no payload, one byte too few, right, one too many."""
+    blocks = []
+    for byte, wake in itertools.product(range(256), (0, 16)):
+        start = b"\x80" + wake * b"\xff" + b"\x55" + bytes([byte])
+        length = byte % 128
+        for size in sorted({0, max(length - 1, 0), length, length + 1}):
+            blocks.append(start + (b"\x02\x15\x03" + rng.randbytes(size))[:size])
+            blocks.append(start + rng.randbytes(size))
+    compare.log("length bytes", guarded(map(text_of, blocks)))
+
+
+def check_long_payloads(compare, rng):
+    """Payloads of each length up to 127, with each served command and with items of each kind."""
+    starts = ("01 15", "02 15 03", "03 01", "04 01", "04 18 05", "02 16 01", "81", "82", "01 24")
+    lines = []
+    for size, start in itertools.product(range(1, 128), map(bytes.fromhex, starts)):
+        payload = start + bytes(rng.randrange(1, 5) for _ in range(size))
+        lines.append(text_of(frame(payload[:size], size % 17)))
+    compare.log("long payloads", guarded(lines))
+
+
+# ---- Lines that are no block -----------------------------------------------------------------
+
+HOSTILE_LINES = (
+    *(b" ", b"  ", b"\t", b"\r", b"\x00", b"0", b"8", b"80 ", b" 80", b"80  55", b"80\t55"),
+    *(b"80 5", b"8 55", b"805", b"8055", b"80 55 8", b"80 55 82 01 15 ", b" 80 55 82 01 15"),
+    *(b"80 55 82 01 15\r", b"80 55 82 01 15\x00", b"80 55 82 01 15\t", b"\x0080 55 82 01 15"),
+    *(b"\xef\xbb\xbf80 55 82 01 15", b"80 ff 55 82 01 15", b"80 55 83 c1 15 00", b"80 Ff 55"),
+    *(b"80 fF 55", b"80 55 8G", b"80 55 G2", b"80 55 8@ 01", b"80 55 8: 01", b"80 55 8/ 01"),
+    *(b"80 55 82 01 1\xb5", b"80 55 82 01 \xb115", b"80,55,82,01,15", b"80 55 82 01 15 #"),
+    *(b"0x80 0x55", b"80-55", b"+8 55", b"-8 55", b"80 55 82 01 15 80 55 82 01 1"),
+    *(b"refused 3", b"not hex", b"\\n", b"80\x0b55", b"80\x0c55", b"80\x8555", b"80\xa055"),
+    *(b"\xff", b"\x80", b"\x80\x55\x82\x01\x15", b"80 55\x0082 01 15", b"80 55 82 01 15\x1a"),
+    *(b"\x1a", b"\x04", b"80 55 82 01 15\r80 55 82 01 15", b"A", b"AB CD EF G0", b"\xc3\xa9"),
+)
+
+
+def check_hostile_lines(compare, rng):
+    """Lines of other forms, between commands that they must leave in peace."""
+    lines = []
+    for number, line in enumerate(HOSTILE_LINES):
+        lines += [line, command(WRITE, 0x11, number), line, b"", command(READ, 0x11)]
+    compare.log("hostile lines", guarded(lines))
+    for ending in (*HOSTILE_LINES, b"80 55 82 01 15", b""):
+        compare.log("a last line without line feed", log_of(fill_cells()) + ending)
+
+
+def check_changed_lines(compare, rng):
+    """A good line with each character replaced by each byte, left out, doubled or with another
+    before it. A line feed among them makes two lines."""
+    good = b"80 55 83 02 11 9A"
+    lines = []
+    for place in range(len(good) + 1):
+        before, here, after = good[:place], good[place : place + 1], good[place + 1 :]
+        lines += [before + after, before + here + here + after]
+        lines += [before + bytes([byte]) + after for byte in range(256)]
+        lines += [before + bytes([byte]) + here + after for byte in b" 0Fa\r\n\t\x00"]
+        lines.append(command(READ, 0x11))
+    compare.log("changed lines", guarded(lines))
+
+
+def check_letters(compare, rng):
+    """Every short line over a few characters, every single byte, and pairs with each byte."""
+    lines = []
+    for size in range(7):
+        lines += map(bytes, itertools.product(b"0A f", repeat=size))
+    lines += [bytes([byte]) for byte in range(256)]
+    lines += [bytes([byte, other]) for byte in range(256) for other in b"0F\xff"]
+    lines += [b"8" + bytes([byte]) for byte in range(256)]
+    compare.log("short lines", guarded(lines))
+
+
+def check_empty_input(compare, rng):
+    """No line at all, blank lines alone, and blank lines enough for several reads and writes."""
+    for count in (0, 1, 2, 3, 600, 601, 4096, 65537):
+        compare.log(f"{count} line feeds", count * b"\n")
+    compare.log("line feeds and a line", 6554 * b"\n" + command(READ, 0x15))
+
+
+# ---- Borders of the input and of the output --------------------------------------------------
+
+BORDER = 65536
+
+
+def hex_text(rng, size):
+    """Characters of a line of that size: pairs parted by a space, the last one cut if need be."""
+    return text_of(rng.choice((b"\x80\x55\xff", b"")) + rng.randbytes(size // 3 + 1))[:size]
+
+
+def broken_text(rng, size):
+    """The same with one character wrong: the first, the last or any."""
+    text = bytearray(hex_text(rng, size))
+    text[rng.choice((0, size - 1, rng.randrange(size)))] = rng.choice(b"g x\r\x00\xff")
+    return bytes(text)
+
+
+def padding(rng, size):
+    """Lines of that many bytes altogether: commands, over-long lines, and a line that fits."""
+    lines = b""
+    while size - len(lines) > 5000:
+        lines += rng.choice((b"0", b"G", b" ")) * rng.randrange(601, 3000) + b"\n"
+        lines += log_of(random_line(rng) for _ in range(2))
+    rest = size - len(lines)
+    return lines + (rest - 1) * b"0" + b"\n" if rest else lines
+
+
+def border_log(rng, placed):
+    """A log in which each given line starts at a place told from a border of its own."""
+    log = bytearray()
+    for number, (line, place) in enumerate(placed, 1):
+        log += padding(rng, number * BORDER + place - len(log))
+        log += line + b"\n"
+    return bytes(log)
+
+
+def places(size):
+    """Starts of a line of that size for which it begins or ends at the border, or its line feed
+    or its 600th character lies there, one before and one behind."""
+    edges = (0, -size, -size // 2, -599, -600)
+    return sorted({edge + step for edge in edges for step in (-1, 0, 1)})
+
+
+def check_border_lines(compare, rng):
+    """Lines of about the longest size, with a border at each place that could matter."""
+    for size in range(584, 612):
+        for name, text in (("hex", hex_text), ("broken", broken_text)):
+            placed = [(text(rng, size), place) for place in places(size)]
+            log = border_log(rng, placed) + log_of(dump())
+            compare.log(f"{name} lines of {size} characters at borders", log)
+
+
+def check_border_commands(compare, rng):
+    """Commands with a border at each of their characters: what they echo shows a lost one."""
+    for wake in (0, 16):
+        size = len(command(PROGRAM, 0x18, 0, slot_value(0), wake=wake))
+        placed = []
+        for place in range(-size - 2, 3):
+            index = rng.randrange(40)
+            value = slot_value(index, rng.randrange(64))
+            placed.append((command(PROGRAM, 0x18, index, value, wake=wake), place))
+        compare.log("commands at borders", border_log(rng, placed) + log_of(dump()))
+    for ending in (b"", b"\n", b"\n\n", b"8", b"80 55 82 01 15"):
+        for place in (-2, -1, 0, 1):
+            log = padding(rng, BORDER + place) + ending
+            compare.log("the end of the input at a border", log)
+            compare.log("the end of the input at a border", log + command(READ, 0x23))
+
+
+def check_very_long_lines(compare, rng):
+    """Lines longer than one read or several, which end before, at or behind a border. Some have
+    a size that is short without its upper bits."""
+    read = b"\n" + command(READ, 0x14)
+    for size in (1000, 4096, 65535, 65536, 65550, 66135, 70_000, 131_086, 200_000):
+        for text in (hex_text(rng, size), size * b" ", size * b"0", size * b"\x00"):
+            log = log_of(fill_cells()) + text
+            for ending in (b"", b"\n", read, read + b"\n"):
+                compare.log(f"a line of {size} characters", log + ending)
+    for size, place in itertools.product((601, 65000, 70_000, 200_000), (-2, -1, 0, 1)):
+        start = 4 * BORDER - size + place
+        log = padding(rng, start) + hex_text(rng, size) + read
+        compare.log("an over-long line that ends at a border", log)
+        compare.log("over-long lines one after the other", log + read + b"\n" + size * b"0" + read)
+
+
+def check_output_sizes(compare, rng):
+    """Outputs that end shortly before, at and behind a round size."""
+    program = command(PROGRAM, 0x18, 0x27, b"\x01\x02\x03\x04\x05") + b"\n"
+    programmed = b"80 55 8A C0 00 04 18 27 01 02 03 04 05\n"
+    read_nv = command(READ_NV, 0x25) + b"\n"
+    steps = (*range(-130, -60, 6), *range(-66, -63), *range(-60, -2, 6), *range(-2, 3), 10, 66)
+    for target in (size + step for size in (4096, 65536) for step in steps):
+        whole = (target - 200) // len(programmed)
+        rest = target - whole * len(programmed)
+        # the rest in lines of 11 and of 10 bytes
+        elevens = rest % 10
+        tens = (rest - 11 * elevens) // 10
+        log = whole * program + elevens * read_nv + tens * b"\n"
+        expected = whole * programmed + elevens * b"refused 10\n" + tens * b"refused 3\n"
+        compare.literal(f"{len(expected)} bytes of output", log, expected)
+
+
+# ---- Long sequences --------------------------------------------------------------------------
+
+
+def random_value(rng, item):
+    """A value of the item, often accepted."""
+    if item == 0x13:
+        return bytes([rng.randrange(-22, 13) % 256])
+    if item == 0x14:
+        return bytes([rng.randrange(36)])
+    if item == 0x15:
+        return bytes([rng.randrange(8)])
+    if item == 0x16:
+        channel = rng.choice((0x04, 0x05, 0x06, 0x07, 0xFE, 0xFF, rng.randrange(256)))
+        return bytes([channel, rng.randrange(1, 17), rng.randrange(2)]) + rng.randbytes(2)
+    if item == 0x18 and rng.random() < 0.3:
+        return bytes(4) + bytes([rng.choice((0, 0, 1))])
+    known = reference.ITEMS.get(item)
+    return rng.randbytes(known.value_bytes if known else 1)
+
+
+def random_payload(rng):
+    """A payload that is mostly accepted and often concerns a cell that others concern too."""
+    if rng.random() < 0.01:
+        return bytes([rng.choice((SET_DEFAULT, ERASE_ALL_ADDRESSES))])
+    code = rng.choice((READ, READ, READ_NV, WRITE, PROGRAM, PROGRAM))
+    settings = (*ONE_BYTE_SETTINGS, 0x16, 0x16, 0x10, 0x18, 0x18, 0x18, 0x23)
+    item = rng.choice(settings) if rng.random() < 0.9 else rng.randrange(0x30)
+    payload = bytes([code, item])
+    if item == 0x16:
+        payload += bytes([rng.choice((1, 2, 1, 2, 1, 2, 0, 3))])
+    if item == 0x18:
+        payload += bytes([rng.choice((rng.randrange(40), 0, 1, 38, 39, 40))])
+    return payload + (random_value(rng, item) if code in (WRITE, PROGRAM) else b"")
+
+
+def random_line(rng):
+    """A line of a long sequence: mostly a whole frame, now and then a damaged one or no block."""
+    kind = rng.random()
+    block = frame(random_payload(rng), rng.choice((0, 0, 0, 1, 2, 16)))
+    if kind < 0.85:
+        return text_of(block)
+    if kind < 0.93:
+        place = rng.randrange(len(block))
+        change = rng.choice((b"", b"\xff", b"\x00", rng.randbytes(1), rng.randbytes(2)))
+        return text_of(block[:place] + change + block[place + rng.randrange(2) :])
+    if kind < 0.96:
+        return text_of(frame(rng.randbytes(rng.randrange(1, 12))))
+    if kind < 0.98:
+        return rng.choice((b"", b" ", text_of(block).lower(), text_of(block) + b" "))
+    return hex_text(rng, rng.randrange(1, 640))
+
+
+def check_random_sequences(compare, rng):
+    """Sequences in which most commands are accepted and meet what earlier ones have stored."""
+    for number in range(8):
+        lines = [random_line(rng) for _ in range(2500)]
+        compare.log(f"random sequence {number + 1}", log_of(lines + dump()))
+
+
+def check_pieces(compare, rng):
+    """The same log as a file and through a pipe, in pieces that cut lines anywhere."""
+    small = log_of([random_line(rng) for _ in range(40)] + list(HOSTILE_LINES))
+    compare.pieces("a small log", small + command(READ, 0x15), (1, 2, 3, 7))
+    compare.pieces("an empty log", b"", (1,))
+    compare.pieces("a long line", hex_text(rng, 700) + b"\n" + command(READ, 0x15), (1, 599))
+    middle = log_of([random_line(rng) for _ in range(400)] + dump())
+    compare.pieces("a middle log", middle, (7, 61, 599, 600, 601, 4096))
+    placed = [(hex_text(rng, size), -size // 2) for size in range(590, 606)]
+    large = border_log(rng, placed) + log_of(dump())
+    compare.pieces("a large log", large, (599, 4095, 4096, 65535, 65536))
+
+
+# ---- The run ---------------------------------------------------------------------------------
+
+CHECKS = (
+    ("examples", check_examples),
+    ("closed runs", check_closed_runs),
+    ("commands", check_commands),
+    ("items", check_items),
+    ("broken rules", check_broken_rules),
+    ("indexes", check_indexes),
+    ("single stores", check_neighbours),
+    ("values of one-byte items", check_one_byte_values),
+    ("values of analog inputs", check_analog_input_values),
+    ("values of slots", check_slot_values),
+    ("addresses", check_addresses),
+    ("status", check_status),
+    ("wake bytes", check_wakes),
+    ("damaged frames", check_damaged_frames),
+    ("bytes of a frame's start", check_frame_bytes),
+    ("length bytes", check_length_bytes),
+    ("long payloads", check_long_payloads),
+    ("hostile lines", check_hostile_lines),
+    ("changed lines", check_changed_lines),
+    ("short lines", check_letters),
+    ("blank lines", check_empty_input),
+    ("lines at borders", check_border_lines),
+    ("commands at borders", check_border_commands),
+    ("very long lines", check_very_long_lines),
+    ("sizes of the output", check_output_sizes),
+    ("random sequences", check_random_sequences),
+    ("pieces", check_pieces),
+)
+
+LEAST_SEEN = 100  # of each refusal
+REFUSALS = range(3, 13)  # those that a block can get from a valid state and a whole buffer
+
+
+def check_coverage(compare):
+    """Every refusal and every permitted command was seen; else the logs above are too thin."""
+    for refusal in REFUSALS:
+        if compare.refused[refusal] < LEAST_SEEN:
+            raise Problem(f"refusal {refusal} was seen {compare.refused[refusal]} times only")
+    permitted = {(SET_DEFAULT, None), (ERASE_ALL_ADDRESSES, None)}
+    for item, (code, letter) in itertools.product(
+        reference.ITEMS.values(), reference.LETTERS.items()
+    ):
+        if letter in item.commands:
+            permitted.add((code, item.code))
+    if not permitted <= set(compare.accepted):
+        raise Problem(f"commands and items never accepted: {permitted - set(compare.accepted)}")
+
+
+def compare_all(program):
+    """Runs every check; the comparison with its counts."""
+    compare = Comparison(program)
+    for name, check in CHECKS:
+        before = compare.lines
+        try:
+            check(compare, random.Random(SEED))
+        except subprocess.TimeoutExpired:
+            raise Problem(f"the program doesn't come to an end in {name}") from None
+        print(f"{name}: {compare.lines - before} lines")
+    check_coverage(compare)
+    return compare
+
+
+def main():
+    program = pathlib.Path(sys.argv[1]).resolve() if len(sys.argv) > 1 else REPLAY
+    if not os.access(program, os.X_OK):
+        raise Problem(f"there is no program {program}; build it first")
+    compare = compare_all(program)
+    refused = ", ".join(f"{number}: {compare.refused[number]}" for number in REFUSALS)
+    print(
+        f"{compare.lines} lines of {compare.bytes} bytes agreed: "
+        f"{sum(compare.accepted.values())} accepted by {len(compare.accepted)} commands and items, "
+        f"{compare.not_hex} not hex, refused {refused}"
+    )
+
+
+if __name__ == "__main__":
+    try:
+        main()
+    except Problem as problem:
+        sys.exit(f"replay: {problem}")
