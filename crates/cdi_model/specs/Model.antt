@@ -2,9 +2,9 @@
 -- result. The frame, the item list, the validation of a payload and a frame's layout are those of the crates below.
 use Prim.Native.Nat.{ℕ, zero, suc}
 use mathlib.Core.List.{List, [], _∷_, _++_}
-use mathlib.Core.Bool.{Bool, true, false, cond, _&&_}
+use mathlib.Core.Bool.{Bool, true, cond, _&&_}
 use lib.Dec.{ltb}
-use lib.ListN.{length, getD, drop}
+use lib.ListN.{length, drop}
 use Rattle.logic.specs.Written.{written}
 use Rattle.refusal.specs.Refusal.{Result, accepted as acceptedAs, refused, none, invalid, responseBufferShort}
 use Rattle.cdi_frame.specs.declared.Span.{Span}

@@ -2,7 +2,7 @@
 use Prim.Native.Nat.{ℕ}
 use mathlib.Core.List.{List}
 use mathlib.Core.Bool.{Bool, true, false, _&&_, _||_}
-use Rattle.cdi_model.specs.Cells.{Copy, nv, working, lineMask, latchMask, txPower, controlSource, interruptMask, setting, input, slot, address, rssi, events, flags, hardwarePower, hardwareLineMask, hardwareLatchMask, Key, Cell, stored, single, hasWorking, isCell, same, sameCopy}
+use Rattle.cdi_model.specs.Cells.{Copy, nv, working, lineMask, latchMask, txPower, controlSource, interruptMask, setting, input, slot, address, rssi, events, flags, hardwarePower, hardwareLineMask, hardwareLatchMask, Cell, stored, single, hasWorking, isCell, same, sameCopy}
 use Rattle.cdi_model.specs.Action.{Action, read, readNv, readStatus, write, program, setDefault, eraseAll}
 
 -- what is decided on a step: a refusal by its number, a command's payload and what it does, or a power-up

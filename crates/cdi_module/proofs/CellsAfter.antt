@@ -2,12 +2,12 @@
 -- Assumes nothing.
 use Prim.Native.Nat.{ℕ, zero, suc, _<_, _≤_}
 use mathlib.Core.Path.{_≡_, refl, sym, ap, _∙_, subst}
-use mathlib.Core.List.{List, [], _∷_, _++_}
+use mathlib.Core.List.{List, [], _∷_}
 use mathlib.Core.Bool.{Bool, true, false, cond, _&&_, _||_, or-false, and-eq-true-iff, true≢false}
 use native.Mathlib.Omega.{arith}
-use lib.Dec.{eqb, leb}
-use lib.ListN.{length, getD, set, take, replicate, length-set, length-replicate, getD-replicate}
-use borrow.Author.Tests.{eqb-true, ltb-true, leb-true}
+use lib.Dec.{eqb}
+use lib.ListN.{length, take, getD-replicate}
+use borrow.Author.Tests.{eqb-true, ltb-true}
 use Rattle.logic.proofs.Choice.{by-cases}
 use Rattle.cdi_item.specs.declared.Item.{Item}
 use Rattle.cdi_item.specs.declared.Value.{Value}
@@ -21,8 +21,8 @@ use Rattle.cdi_command.specs.Payload.{valueIn}
 use Rattle.cdi_state.specs.declared.Slot.{Slot}
 use Rattle.cdi_state.specs.declared.Settings.{Settings}
 use Rattle.cdi_state.specs.declared.ModuleState.{ModuleState}
-use Rattle.cdi_state.specs.State.{inputBytes, slotBytes, noSlot, noInput, defaultSettings, emptySlot, ArrayLengths}
-use Rattle.cdi_model.specs.Cells.{Copy, nv, working, Setting, lineMask, latchMask, txPower, controlSource, messageSelect, interruptMask, settingNumber, Key, setting, input, slot, address, Single, name, firmware, serial, lines, rssi, ladj, events, flags, hardwarePower, hardwareLineMask, hardwareLatchMask, Cell, stored, single, hasWorking, isKey, isCell, sameKey, same}
+use Rattle.cdi_state.specs.State.{inputBytes, slotBytes, noSlot, defaultSettings, emptySlot, ArrayLengths}
+use Rattle.cdi_model.specs.Cells.{nv, working, Setting, lineMask, latchMask, txPower, controlSource, messageSelect, interruptMask, settingNumber, Key, setting, input, slot, address, name, firmware, serial, lines, rssi, ladj, events, flags, hardwarePower, hardwareLineMask, hardwareLatchMask, Cell, stored, single, hasWorking, isKey, isCell, sameKey, same}
 use Rattle.cdi_model.specs.Action.{Source, held, one, status, write, program, setDefault, eraseAll, keyOf, rowOf, sourceOf, readFrom, readNvFrom, actionOf}
 use Rattle.cdi_model.specs.Table.{actionStores, powerUpStores}
 use Rattle.cdi_model.specs.Values.{defaultValue}
@@ -31,9 +31,9 @@ use Rattle.cdi_model.proofs.Keys.{width}
 use Rattle.cdi_model.proofs.Checked.{Checked}
 use Rattle.cdi_module.specs.Value.{place, inputAt}
 use Rattle.cdi_module.specs.Store.{withSettings, withAddress, settingStored, inputFrom, inputStored, slotFrom, addressFrom, plainWritten, rowWritten, plainProgrammed, rowProgrammed, slotProgrammed, defaulted, erased, stateAfter, stateAtPowerUp}
-use Rattle.cdi_module.specs.Machine.{settingHeld, singleHeld, cells}
+use Rattle.cdi_module.specs.Machine.{settingHeld, cells}
 use Rattle.cdi_module.proofs.Stores.{input-bounds}
-use Rattle.cdi_module.proofs.Views.{put-at, setting-put, setting-leaves-inputs, input-leaves-settings, input-put, inputs-length, same-singles}
+use Rattle.cdi_module.proofs.Views.{put-at, setting-put, setting-leaves-inputs, input-leaves-settings, input-put, same-singles}
 
 -- ---- a value of the length that it is known to have
 take-again : (n : ℕ) (l : List ℕ) → take n l ≡ take (length (take n l)) l

@@ -7,11 +7,10 @@ use mathlib.Core.List.{List, [], _∷_, _++_}
 use mathlib.Core.Bool.{Bool, true, false, cond, not, _&&_, _||_, and-eq-true-iff, true≢false}
 use native.Mathlib.Omega.{arith}
 use lib.Dec.{eqb, ltb, leb}
-use lib.ListN.{length, getD, drop, length-set, length-replicate, List·getD-eq-default}
+use lib.ListN.{length, getD, drop, length-set, List·getD-eq-default}
 use lib.Seq.{ext-getD}
-use borrow.Author.Tests.{eqb-true, ltb-false, le-leb, leb-false}
+use borrow.Author.Tests.{ltb-false, le-leb, leb-false}
 use Rattle.logic.proofs.Choice.{choice, by-cases, implied}
-use Rattle.logic.specs.Written.{written}
 use Rattle.refusal.specs.Refusal.{Result, accepted, refused, andThen}
 use Rattle.cdi_frame.specs.declared.Span.{Span}
 use Rattle.cdi_frame.specs.Frame.{wakeLimit, readFrame, payloadIn}
@@ -20,7 +19,6 @@ use Rattle.cdi_item.specs.declared.Item.{Item}
 use Rattle.cdi_item.specs.Items as item
 use Rattle.cdi_item.specs.Consistent.{every}
 use Rattle.cdi_item.proofs.Consistent.{found}
-use Rattle.cdi_command.specs.declared.Index.{Index}
 use Rattle.cdi_command.specs.declared.Index.the-variants.{Slot as SlotAt, Input as InputAt}
 use Rattle.cdi_command.specs.declared.Command.{Command}
 use Rattle.cdi_command.specs.declared.Command.the-variants.{Read, ReadIndexed, ReadNv, ReadNvIndexed, Write, WriteIndexed, Program, ProgramIndexed, SetDefault, EraseAll}
@@ -31,9 +29,9 @@ use Rattle.cdi_state.specs.declared.Slot.{Slot}
 use Rattle.cdi_state.specs.declared.AnalogInput.{AnalogInput}
 use Rattle.cdi_state.specs.declared.Settings.{Settings}
 use Rattle.cdi_state.specs.declared.ModuleState.{ModuleState}
-use Rattle.cdi_state.specs.State.{inputBytes, slotBytes, noSlot, noInput, emptySlot, ArrayLengths}
-use Rattle.cdi_model.specs.Cells.{nv, working, Setting, lineMask, latchMask, txPower, controlSource, messageSelect, interruptMask, Key, setting, input, slot, address, Single, name, firmware, serial, lines, rssi, ladj, events, flags, hardwarePower, hardwareLineMask, hardwareLatchMask, Cell, stored, single, isKey, isCell}
-use Rattle.cdi_model.specs.Step.{Step, powerUp, command, responded}
+use Rattle.cdi_state.specs.State.{inputBytes, slotBytes, noSlot, noInput, ArrayLengths}
+use Rattle.cdi_model.specs.Cells.{nv, working, Setting, lineMask, latchMask, txPower, controlSource, messageSelect, interruptMask, setting, input, slot, address, Single, name, firmware, serial, lines, rssi, ladj, events, flags, hardwarePower, hardwareLineMask, hardwareLatchMask, Cell, stored, single, isKey, isCell}
+use Rattle.cdi_model.specs.Step.{Step, powerUp, command}
 use Rattle.cdi_model.specs.Action.{Source, held, one, status, readFrom, readNvFrom, sourceOf, actionOf}
 use Rattle.cdi_model.specs.Table.{Decision, refuse, execute, executePowerUp, stores}
 use Rattle.cdi_model.specs.Model as theirs
@@ -42,7 +40,7 @@ use Rattle.cdi_model.proofs.Checked.{accepted-checked}
 use Rattle.sequence.specs.Model.{next}
 use Rattle.sequence.specs.Machine.{Follows}
 use Rattle.cdi_module.specs.Value.{inputAt, valueRead}
-use Rattle.cdi_module.specs.Store.{withSettings, withAddress, addressFrom, settingStored, inputFrom, inputStored, slotFrom, stateAfter, stateAtPowerUp}
+use Rattle.cdi_module.specs.Store.{withSettings, withAddress, addressFrom, settingStored, inputFrom, slotFrom, stateAfter, stateAtPowerUp}
 use Rattle.cdi_module.specs.Module as own
 use Rattle.cdi_module.specs.Machine.{settingHeld, singleHeld, cells, machine}
 use Rattle.cdi_module.proofs.Views.{inputs-length}

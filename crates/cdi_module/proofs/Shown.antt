@@ -1,7 +1,7 @@
 -- The value that a command reads from a state is the one that its action reads from the state's cells.
 -- Assumes nothing.
 use Prim.Native.Nat.{ℕ}
-use mathlib.Core.Path.{_≡_, refl, sym, ap, _∙_}
+use mathlib.Core.Path.{_≡_, refl, ap, _∙_}
 use mathlib.Core.List.{List, [], _∷_}
 use mathlib.Core.Bool.{Bool, true, false, cond, not}
 use lib.Bits.{bitAnd, bitOr}
@@ -9,7 +9,6 @@ use lib.Dec.{eqb}
 use borrow.Author.Tests.{eqb-true}
 use Rattle.logic.proofs.Choice.{choice}
 use Rattle.cdi_item.specs.Items as item
-use Rattle.cdi_command.specs.declared.Index.{Index}
 use Rattle.cdi_command.specs.declared.Index.the-variants.{Slot, Input}
 use Rattle.cdi_command.specs.declared.Command.{Command}
 use Rattle.cdi_command.specs.declared.Command.the-variants.{Read, ReadIndexed, ReadNv, ReadNvIndexed, Write, WriteIndexed, Program, ProgramIndexed, SetDefault, EraseAll}

@@ -1,8 +1,7 @@
 -- The sequence theorem, from the model's laws and the module following the model; and what it rests on, of the module's own states.
 -- Assumes nothing.
-use mathlib.Core.Path.{_≡_, refl, sym, ap, _∙_, fun-ext}
-use mathlib.Core.List.{List}
-use mathlib.Core.Bool.{Bool, true, false, cond}
+use mathlib.Core.Path.{_≡_, sym, ap, _∙_, fun-ext}
+use mathlib.Core.Bool.{false, cond}
 use lib.Dec.{ltb}
 use lib.ListN.{length}
 use Rattle.logic.proofs.Choice.{by-cases}
@@ -12,7 +11,7 @@ use Rattle.cdi_state.specs.declared.ModuleState.{ModuleState}
 use Rattle.cdi_state.specs.State.{ArrayLengths}
 use Rattle.cdi_state.specs.Valid.{isValid}
 use Rattle.cdi_model.specs.Step.{Step, powerUp, command, StepResult, poweredUp, responded}
-use Rattle.cdi_model.specs.Model.{Cells, model, isValid as isValidCells}
+use Rattle.cdi_model.specs.Model.{model, isValid as isValidCells}
 use Rattle.cdi_model.proofs.Lawful.{lawful, validity-kept as cells-validity-kept}
 use Rattle.cdi_module.specs.Module.{responseMax, decide, step, resultOf}
 use Rattle.cdi_module.specs.Machine.{cells, machine}

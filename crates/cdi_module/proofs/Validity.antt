@@ -3,16 +3,15 @@
 use Prim.Native.Nat.{ℕ, zero, suc}
 use mathlib.Core.Path.{_≡_, refl, sym, ap, _∙_, ap₂, subst}
 use mathlib.Core.List.{List, [], _∷_}
-use mathlib.Core.Bool.{Bool, true, false, _&&_, _||_, not}
+use mathlib.Core.Bool.{Bool, true, false, _&&_, _||_}
 use lib.Dec.{eqb}
 use lib.ListN.{length, getD, take, drop}
 use Rattle.cdi_item.specs.Values.{acceptedValue}
-use Rattle.cdi_item.specs.Items.{pairedModule}
 use Rattle.cdi_state.specs.declared.Slot.{Slot}
 use Rattle.cdi_state.specs.declared.ModuleState.{ModuleState}
 use Rattle.cdi_state.specs.State.{slotBytes, noSlot, ArrayLengths}
 use Rattle.cdi_state.specs.Valid.{hasZero, validSettings, validSlot, validSlots, isValid}
-use Rattle.cdi_model.specs.Cells.{nv, working, slot}
+use Rattle.cdi_model.specs.Cells.{nv, working}
 use Rattle.cdi_model.specs.Values.{acceptedSlot, hasZero as hasZeroCell}
 use Rattle.cdi_model.specs.Model.{allBelow, validCopy, isValid as isValidCells}
 use Rattle.cdi_model.proofs.Values.{zeros-agree}

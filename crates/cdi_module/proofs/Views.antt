@@ -1,13 +1,13 @@
 -- A state's settings, rows and other fields seen as lists: what is put into one place of a list is there, and nowhere else.
 use Prim.Native.Nat.{ℕ, zero, suc, _<_, _≤_}
 use mathlib.Core.Path.{_≡_, refl, sym, ap, _∙_}
-use mathlib.Core.List.{List, [], _∷_, _++_}
-use mathlib.Core.Bool.{Bool, true, false, cond, _&&_}
+use mathlib.Core.List.{List, [], _∷_}
+use mathlib.Core.Bool.{cond}
 use native.Mathlib.Omega.{arith}
-use lib.Dec.{eqb, ltb, leb, eqb·zero-suc, eqb·suc-suc}
+use lib.Dec.{eqb, eqb·zero-suc, eqb·suc-suc}
 use lib.ListN.{length, getD, set, length-set}
 use lib.Seq.{getD-set-same, getD-set-other}
-use borrow.Author.Tests.{eqb-true, eqb-false, ltb-true, leb-true}
+use borrow.Author.Tests.{eqb-true, eqb-false}
 use Rattle.logic.proofs.Choice.{by-cases}
 use Rattle.cdi_item.specs.Items as item
 use Rattle.cdi_state.specs.declared.AnalogInput.{AnalogInput}
@@ -16,7 +16,7 @@ use Rattle.cdi_state.specs.declared.ModuleState.{ModuleState}
 use Rattle.cdi_state.specs.State.{inputBytes, noInput}
 use Rattle.cdi_model.specs.Cells.{Setting, lineMask, latchMask, txPower, controlSource, messageSelect, interruptMask, Single, name, firmware, serial, lines, rssi, ladj, events, flags, hardwarePower, hardwareLineMask, hardwareLatchMask, settingNumber, singleNumber}
 use Rattle.cdi_module.specs.Value.{settingBytes, place, inputAt}
-use Rattle.cdi_module.specs.Store.{withBytes, withInputs, settingStored, inputStored}
+use Rattle.cdi_module.specs.Store.{withBytes, settingStored, inputStored}
 use Rattle.cdi_module.specs.Machine.{settingHeld, singleHeld}
 
 -- a row put into a list: the one fact that settings, inputs and slots share, over the row number

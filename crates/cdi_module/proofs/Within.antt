@@ -1,12 +1,11 @@
 -- A response lies within its buffer.
 -- Assumes nothing.
 use Prim.Native.Nat.{ℕ, _≤_}
-use mathlib.Core.Path.{_≡_, refl, sym, ap, subst}
-use mathlib.Core.List.{List, _++_}
+use mathlib.Core.Path.{_≡_, sym, subst}
+use mathlib.Core.List.{List}
 use native.Mathlib.Omega.{arith}
 use lib.ListN.{length, drop, length-append}
 use Rattle.logic.specs.Written.{written}
-use Rattle.cdi_command.specs.declared.Command.{Command}
 use Rattle.cdi_state.specs.declared.ModuleState.{ModuleState}
 use Rattle.cdi_model.specs.Step.{StepResult, poweredUp, command, responded}
 use Rattle.cdi_module.specs.Module.{Decision, refuse, execute, executePowerUp, decide, responseTo, blockResult, resultOf}

@@ -8,7 +8,6 @@ use Rattle.logic.specs.Signed.{signed}
 use Rattle.cdi_state.specs.declared.Slot.{Slot}
 use Rattle.cdi_state.specs.declared.AnalogInput.{AnalogInput}
 use Rattle.cdi_state.specs.declared.Settings.{Settings}
-use Rattle.cdi_state.specs.declared.HardwareSelection.{HardwareSelection}
 use Rattle.cdi_state.specs.declared.ModuleState.{ModuleState}
 
 -- the five bytes of a row of item 16, and of item 18

@@ -1,9 +1,8 @@
 -- The refusals stand in the order of the decision: the buffer, the state, the frame; what is left is the payload's.
 -- Assumes nothing.
-use mathlib.Core.Path.{_≡_, refl, sym, ap, subst, _∙_}
-use mathlib.Core.List.{List}
-use Prim.Native.Nat.{ℕ}
+use mathlib.Core.Path.{sym, ap, _∙_}
 use native.Mathlib.Omega.{arith}
+use lib.ListN.{length}
 use native.Mathlib.Nat.{add-sub-cancel-left}
 use borrow.Author.Needs.{needs}
 use borrow.Author.Tests.{lt-ltb, le-ltb, not-true, not-false}
@@ -11,7 +10,7 @@ use Rattle.refusal.specs.declared.Outcome.{Outcome}
 use Rattle.cdi_frame.specs.Frame.{wakeLimit, frameResult}
 use Rattle.cdi_frame.proofs.Accepted.{payload-within}
 use Rattle.cdi_model.specs.Step.{responded}
-use Rattle.cdi_module.specs.Module.{commandIn, decide, step, resultOf}
+use Rattle.cdi_module.specs.Module.{responseMax, commandIn, decide, step, resultOf}
 use Rattle.cdi_module.proofs.execute.Statement.{statement}
 use Rattle.cdi_module.proofs.execute.Tie as tie
 
@@ -22,7 +21,7 @@ returns : tie.Need-returns
 unfolding step resultOf decide
 returns c =
     let buffer = c .before .before .before .before .args .response .now in
-    rw (lt-ltb _ _ (c .before .if1 .taken))
+    rw (lt-ltb (length buffer) responseMax (c .before .if1 .taken))
     (c .refused .ensures .0, ap (λ (o : Outcome). responded (o .refusal) (o .length) buffer) (c .refused .ensures .1))
 
 is-valid-requires : tie.Need-is-valid-requires
@@ -36,7 +35,7 @@ unfolding step resultOf decide
 returns-2 c =
     let v = c .before .before in
     let buffer = v .before .before .before .before .args .response .now in
-    rw (le-ltb _ _ (v .before .if1 .left), sym (v .is-valid .ensures) ∙ not-true _ (c .before .if2 .taken))
+    rw (le-ltb (length buffer) responseMax (v .before .if1 .left), sym (v .is-valid .ensures) ∙ not-true _ (c .before .if2 .taken))
     (c .refused2 .ensures .0, ap (λ (o : Outcome). responded (o .refusal) (o .length) buffer) (c .refused2 .ensures .1))
 
 read-frame-requires : tie.Need-read-frame-requires
@@ -82,7 +81,7 @@ returns-3 c =
     let v = f .before .before in
     let buffer = v .before .before .before .before .args .response .now in
     rw (
-      le-ltb _ _ (v .before .if1 .left),
+      le-ltb (length buffer) responseMax (v .before .if1 .left),
       sym (v .is-valid .ensures) ∙ not-false _ (f .before .if2 .left),
       sym (f .read-frame .ensures) ∙ ap frameResult (d .frame .given .1),
     )
@@ -98,8 +97,9 @@ returns-4 c =
     let d = p .before .before .before .before .before in
     let f = d .before .before in
     let v = f .before .before in
+    let buffer = v .before .before .before .before .args .response .now in
     rw (
-      le-ltb _ _ (v .before .if1 .left),
+      le-ltb (length buffer) responseMax (v .before .if1 .left),
       sym (v .is-valid .ensures) ∙ not-false _ (f .before .if2 .left),
       sym (f .read-frame .ensures) ∙ ap frameResult (d .frame2 .given .1),
     )
