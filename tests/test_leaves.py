@@ -9,53 +9,17 @@ first difference ends the run with exit status 1.
 
 import ctypes
 import itertools
-import pathlib
-import random
-import shutil
-import subprocess
 import sys
-import tempfile
 
 sys.dont_write_bytecode = True  # leaves no files beside the tests
 
 import reference
+from library import BYTE, POINTER, SIZE, Calls, Problem, build, struct
+from payloads import WRAPS, edge_payloads, frame, random_payload
 
-ROOT = pathlib.Path(__file__).resolve().parent.parent
 SEED = 20240001
 
-
-class Problem(Exception):
-    """The library can't be built, or it differs from the reference."""
-
-
 # ---- The library -----------------------------------------------------------------------------
-
-
-def run(*words):
-    """Runs a command from the repository's root; what it printed is shown if it fails."""
-    if shutil.which(words[0]) is None:
-        raise Problem(f"`{words[0]}` is not installed, or not on the path")
-    done = subprocess.run(
-        words, cwd=ROOT, stdout=subprocess.PIPE, stderr=subprocess.STDOUT, text=True
-    )
-    if done.returncode != 0:
-        raise Problem(f"`{' '.join(words)}` failed with {done.returncode}:\n{done.stdout}")
-
-
-def build(folder):
-    """Proves and compiles the crate, and links it to a shared library in the folder."""
-    library = str(pathlib.Path(folder) / "leaves.so")
-    archive = "target/staticlib/libleaf_probe.a"
-    run("rt", "staticlib", "leaf_probe")
-    run("gcc", "-shared", "-o", library, "-Wl,--whole-archive", archive, "-Wl,--no-whole-archive")
-    return library
-
-
-def struct(**fields):
-    return type("Result", (ctypes.Structure,), {"_fields_": list(fields.items())})
-
-
-BYTE, SIZE, POINTER = ctypes.c_uint8, ctypes.c_size_t, ctypes.c_void_p
 
 # Each function's result and arguments.
 SIGNATURES = {
@@ -82,83 +46,9 @@ SIGNATURES = {
 }
 
 
-def load(path):
-    """The library, with the signature of each of its functions."""
-    library = ctypes.CDLL(path)
-    for name, (result, arguments) in SIGNATURES.items():
-        try:
-            function = getattr(library, name)
-        except AttributeError:
-            raise Problem(f"the library has no function {name}") from None
-        function.restype = result
-        function.argtypes = arguments
-    return library
-
-
-# ---- Comparing -------------------------------------------------------------------------------
-
-GUARD = bytes(range(0xA0, 0xB0))
-
-
-class Memory:
-    """Memory that is handed to the library: some bytes between two guards."""
-
-    def __init__(self, room):
-        self.bytes = bytearray(len(GUARD) + room + len(GUARD))
-        self.held = ctypes.c_char.from_buffer(self.bytes)  # keeps the bytes at their place
-        self.address = ctypes.addressof(self.held) + len(GUARD)
-        assert self.address % 2 == 0, "readings are 16-bit numbers"
-        self.give(b"")
-
-    def give(self, content):
-        self.given = content
-        self.bytes[: len(content) + 2 * len(GUARD)] = GUARD + content + GUARD
-        return self.address
-
-    def content(self):
-        """The bytes as they are now, or word of a changed guard, which equals no bytes."""
-        end = len(GUARD) + len(self.given)
-        whole = bytes(self.bytes[: end + len(GUARD)])
-        if whole.startswith(GUARD) and whole.endswith(GUARD):
-            return whole[len(GUARD) : end]
-        return "a guard is changed, with the guards it is", whole
-
-
-def show(value):
-    """A value as a line of text: bytes as hexadecimal pairs, a very long one cut."""
-    if isinstance(value, tuple):
-        return ", ".join(show(part) for part in value)
-    if isinstance(value, bytes):
-        text = f"{len(value)} bytes [{value.hex(' ').upper()}]"
-    else:
-        text = repr(value)
-    return text if len(text) <= 3000 else text[:3000] + " ... (cut)"
-
-
-class Comparison:
+class Comparison(Calls):
     """A method for each function of the library: it calls the library and the reference, compares
     what came, and returns it."""
-
-    def __init__(self, library):
-        self.library = library
-        self.calls = 0
-        self.input = Memory(140_000)
-        self.output = Memory(140_000)
-
-    def same(self, what, expected, came, **inputs):
-        """Raises a Problem if two values differ."""
-        if expected != came:
-            lines = [f"difference in {what}"]
-            lines += [f"  {name}: {show(value)}" for name, value in inputs.items()]
-            lines += [f"  expected: {show(expected)}", f"  came:     {show(came)}"]
-            raise Problem("\n".join(lines))
-
-    def called(self, function, expected, came, **inputs):
-        """Counts one call and compares its result, and that the input given is as it was."""
-        self.calls += 1
-        self.same(function, expected, came, **inputs)
-        self.same(f"the input of {function}", self.input.given, self.input.content(), **inputs)
-        return came
 
     def readout(self, readings, offset):
         address = self.input.give(b"".join(r.to_bytes(2, sys.byteorder) for r in readings))
@@ -381,9 +271,6 @@ def check_example_lines(compare, rng):
 
 # ---- Readout and percent ---------------------------------------------------------------------
 
-# Added to a size, these leave its lowest one or two bytes as they were.
-WRAPS = (2**8, 2**16)
-
 
 def check_readout(compare, rng):
     offsets = (-32768, -1, 0, 1, 15, 16, 32767)
@@ -417,11 +304,6 @@ def check_percent(compare, rng):
 
 
 # ---- Frame -----------------------------------------------------------------------------------
-
-
-def frame(wake, payload):
-    """A frame by the paper's sentence, with any wake count and payload."""
-    return b"\x80" + wake * b"\xff" + b"\x55" + bytes([0x80 + len(payload)]) + payload
 
 
 def check_frame_lengths(compare, rng):
@@ -503,59 +385,6 @@ def check_slot_values(compare, rng):
 
 
 # ---- Payloads --------------------------------------------------------------------------------
-
-COMMANDS = (0x00, 0x01, 0x02, 0x03, 0x04, 0x05, 0x80, 0x81, 0x82, 0x83, 0xC1, 0xFF)
-UNSERVED_ITEMS = (0x00, 0x04, 0x17, 0x19, 0x1A, 0x24, 0x27, 0x28, 0x29, 0xFF)
-INDEXES = (0x00, 0x01, 0x02, 0x03, 0x26, 0x27, 0x28, 0xFF)
-
-# Values at both sides of each item's limits.
-EDGE_VALUES = {
-    0x13: ("EB", "EC", "0A", "0B", "80"),
-    0x14: ("1F", "20", "40", "80"),
-    0x15: ("06", "07"),
-    0x16: (
-        "FF 01 00 00 00",
-        "04 10 01 80 00",
-        "03 01 00 00 00",
-        "08 01 00 00 00",
-        "FD 01 00 00 00",
-        "07 00 00 00 00",
-        "07 11 00 00 00",
-        "FE 01 02 00 00",
-    ),
-    0x18: ("00 00 00 00 01", "00 00 00 00 FF", "00 00 00 01 00", "01 00 00 00 00"),
-}
-
-
-def edge_payloads():
-    """Each command with each item, in every length up to two bytes over a whole Program, with
-    every pair of a good or bad index and a good or bad value; each once, in a fixed order."""
-    payloads = set()
-    for code in [*reference.ITEMS, *UNSERVED_ITEMS]:
-        item = reference.ITEMS.get(code, reference.Item(code, 1, False, ""))
-        indexes = [bytes([index]) for index in INDEXES] if item.indexed else [b""]
-        values = [bytes(item.value_bytes), item.value_bytes * b"\xff"]
-        values += [bytes.fromhex(value) for value in EDGE_VALUES.get(code, ())]
-        for command, index, value in itertools.product(COMMANDS, indexes, values):
-            whole = bytes([command, code]) + index + value + b"\x00\x01"
-            payloads.update(whole[:size] for size in range(len(whole) + 1))
-    return sorted(payloads)
-
-
-def random_payload(rng):
-    """A payload that is often near one that is accepted."""
-    if rng.random() < 0.2:
-        return rng.randbytes(rng.randrange(24))
-    command = rng.choice(COMMANDS[1:5])
-    item = reference.ITEMS[rng.choice(list(reference.ITEMS))]
-    payload = bytes([command, item.code])
-    if item.indexed:
-        payload += bytes([rng.choice(INDEXES + (rng.randrange(256),))])
-    if command in (0x02, 0x04):
-        small = rng.random() < 0.7
-        payload += bytes(rng.randrange(8 if small else 256) for _ in range(item.value_bytes))
-    change = rng.randrange(10)
-    return payload[:-1] if change == 0 else payload + b"\x01" if change == 1 else payload
 
 
 def check_short_payloads(compare, rng):
@@ -732,20 +561,10 @@ CHECKS = (
 )
 
 
-def compare_all(library):
-    """Runs every check; the number of calls that agreed."""
-    compare = Comparison(library)
-    for name, check in CHECKS:
-        before = compare.calls
-        check(compare, random.Random(SEED))
-        print(f"{name}: {compare.calls - before} calls")
-    return compare.calls
-
-
 def main():
-    with tempfile.TemporaryDirectory() as folder:
-        calls = compare_all(load(build(folder)))
-    print(f"{calls} calls agreed")
+    compare = Comparison(build("leaf_probe", SIGNATURES))
+    compare.run(CHECKS, SEED)
+    print(f"{compare.calls} calls agreed")
 
 
 if __name__ == "__main__":

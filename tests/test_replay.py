@@ -23,6 +23,7 @@ import time
 sys.dont_write_bytecode = True  # leaves no files beside the tests
 
 import reference
+from payloads import likely_payload, permitted_commands
 from reference import ERASE_ALL_ADDRESSES, PROGRAM, READ, READ_NV, SET_DEFAULT, WRITE
 
 ROOT = pathlib.Path(__file__).resolve().parent.parent
@@ -873,42 +874,10 @@ def check_output_sizes(compare, rng):
 # ---- Long sequences --------------------------------------------------------------------------
 
 
-def random_value(rng, item):
-    """A value of the item, often accepted."""
-    if item == 0x13:
-        return bytes([rng.randrange(-22, 13) % 256])
-    if item == 0x14:
-        return bytes([rng.randrange(36)])
-    if item == 0x15:
-        return bytes([rng.randrange(8)])
-    if item == 0x16:
-        channel = rng.choice((0x04, 0x05, 0x06, 0x07, 0xFE, 0xFF, rng.randrange(256)))
-        return bytes([channel, rng.randrange(1, 17), rng.randrange(2)]) + rng.randbytes(2)
-    if item == 0x18 and rng.random() < 0.3:
-        return bytes(4) + bytes([rng.choice((0, 0, 1))])
-    known = reference.ITEMS.get(item)
-    return rng.randbytes(known.value_bytes if known else 1)
-
-
-def random_payload(rng):
-    """A payload that is mostly accepted and often concerns a cell that others concern too."""
-    if rng.random() < 0.01:
-        return bytes([rng.choice((SET_DEFAULT, ERASE_ALL_ADDRESSES))])
-    code = rng.choice((READ, READ, READ_NV, WRITE, PROGRAM, PROGRAM))
-    settings = (*ONE_BYTE_SETTINGS, 0x16, 0x16, 0x10, 0x18, 0x18, 0x18, 0x23)
-    item = rng.choice(settings) if rng.random() < 0.9 else rng.randrange(0x30)
-    payload = bytes([code, item])
-    if item == 0x16:
-        payload += bytes([rng.choice((1, 2, 1, 2, 1, 2, 0, 3))])
-    if item == 0x18:
-        payload += bytes([rng.choice((rng.randrange(40), 0, 1, 38, 39, 40))])
-    return payload + (random_value(rng, item) if code in (WRITE, PROGRAM) else b"")
-
-
 def random_line(rng):
     """A line of a long sequence: mostly a whole frame, now and then a damaged one or no block."""
     kind = rng.random()
-    block = frame(random_payload(rng), rng.choice((0, 0, 0, 1, 2, 16)))
+    block = frame(likely_payload(rng), rng.choice((0, 0, 0, 1, 2, 16)))
     if kind < 0.85:
         return text_of(block)
     if kind < 0.93:
@@ -983,14 +952,9 @@ def check_coverage(compare):
     for refusal in REFUSALS:
         if compare.refused[refusal] < LEAST_SEEN:
             raise Problem(f"refusal {refusal} was seen {compare.refused[refusal]} times only")
-    permitted = {(SET_DEFAULT, None), (ERASE_ALL_ADDRESSES, None)}
-    for item, (code, letter) in itertools.product(
-        reference.ITEMS.values(), reference.LETTERS.items()
-    ):
-        if letter in item.commands:
-            permitted.add((code, item.code))
-    if not permitted <= set(compare.accepted):
-        raise Problem(f"commands and items never accepted: {permitted - set(compare.accepted)}")
+    never = permitted_commands() - set(compare.accepted)
+    if never:
+        raise Problem(f"commands and items never accepted: {never}")
 
 
 def compare_all(program):

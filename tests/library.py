@@ -1,0 +1,131 @@
+"""What the tests share that call the project's functions through a shared library: building it,
+memory between guard bytes, and the comparison that ends with the first difference.
+"""
+
+import ctypes
+import pathlib
+import random
+import shutil
+import subprocess
+import tempfile
+
+ROOT = pathlib.Path(__file__).resolve().parent.parent
+
+
+class Problem(Exception):
+    """The library can't be built, or it differs from the reference."""
+
+
+# ---- Building --------------------------------------------------------------------------------
+
+BYTE, SIZE, POINTER = ctypes.c_uint8, ctypes.c_size_t, ctypes.c_void_p
+
+
+def struct(**fields):
+    return type("Struct", (ctypes.Structure,), {"_fields_": list(fields.items())})
+
+
+def run(*words):
+    """Runs a command from the repository's root; what it printed is shown if it fails."""
+    if shutil.which(words[0]) is None:
+        raise Problem(f"`{words[0]}` is not installed, or not on the path")
+    done = subprocess.run(
+        words, cwd=ROOT, stdout=subprocess.PIPE, stderr=subprocess.STDOUT, text=True
+    )
+    if done.returncode != 0:
+        raise Problem(f"`{' '.join(words)}` failed with {done.returncode}:\n{done.stdout}")
+
+
+def load(path, signatures):
+    """A shared library whose functions have the given results and arguments."""
+    library = ctypes.CDLL(path)
+    for name, (result, arguments) in signatures.items():
+        try:
+            function = getattr(library, name)
+        except AttributeError:
+            raise Problem(f"the library has no function {name}") from None
+        function.restype = result
+        function.argtypes = arguments
+    return library
+
+
+def build(crate, signatures):
+    """Proves and compiles a crate, and loads it as a shared library."""
+    archive = f"target/staticlib/lib{crate}.a"
+    run("rt", "staticlib", crate)
+    with tempfile.TemporaryDirectory() as folder:
+        path = str(pathlib.Path(folder) / f"{crate}.so")
+        run("gcc", "-shared", "-o", path, "-Wl,--whole-archive", archive, "-Wl,--no-whole-archive")
+        return load(path, signatures)
+
+
+# ---- Comparing -------------------------------------------------------------------------------
+
+GUARD = bytes(range(0xA0, 0xB0))
+
+
+class Memory:
+    """Memory that is handed to the library: some bytes between two guards."""
+
+    def __init__(self, room):
+        self.bytes = bytearray(len(GUARD) + room + len(GUARD))
+        self.held = ctypes.c_char.from_buffer(self.bytes)  # keeps the bytes at their place
+        self.address = ctypes.addressof(self.held) + len(GUARD)
+        assert self.address % 2 == 0, "readings are 16-bit numbers"
+        self.give(b"")
+
+    def give(self, content):
+        self.given = content
+        self.bytes[: len(content) + 2 * len(GUARD)] = GUARD + content + GUARD
+        return self.address
+
+    def content(self):
+        """The bytes as they are now, or word of a changed guard, which equals no bytes."""
+        end = len(GUARD) + len(self.given)
+        whole = bytes(self.bytes[: end + len(GUARD)])
+        if whole.startswith(GUARD) and whole.endswith(GUARD):
+            return whole[len(GUARD) : end]
+        return "a guard is changed, with the guards it is", whole
+
+
+def show(value):
+    """A value as a line of text: bytes as hexadecimal pairs, a very long one cut."""
+    if isinstance(value, tuple):
+        return ", ".join(show(part) for part in value)
+    if isinstance(value, bytes):
+        text = f"{len(value)} bytes [{value.hex(' ').upper()}]"
+    else:
+        text = repr(value)
+    return text if len(text) <= 3000 else text[:3000] + " ... (cut)"
+
+
+class Calls:
+    """Calls of a library that are counted and compared, with memory for an input and an output."""
+
+    def __init__(self, library):
+        self.library = library
+        self.calls = 0
+        self.input = Memory(140_000)
+        self.output = Memory(140_000)
+
+    def same(self, what, expected, came, **inputs):
+        """Raises a Problem if two values differ."""
+        if expected != came:
+            lines = [f"difference in {what}"]
+            lines += [f"  {name}: {show(value)}" for name, value in inputs.items()]
+            lines += [f"  expected: {show(expected)}", f"  came:     {show(came)}"]
+            raise Problem("\n".join(lines))
+
+    def called(self, function, expected, came, **inputs):
+        """Counts one call and compares its result, and that the input given is as it was."""
+        self.calls += 1
+        self.same(function, expected, came, **inputs)
+        self.same(f"the input of {function}", self.input.given, self.input.content(), **inputs)
+        return came
+
+    def run(self, checks, seed):
+        """Runs checks, each with the same random numbers, and tells the calls that agreed."""
+        for name, check in checks:
+            before = self.calls
+            check(self, random.Random(seed))
+            print(f"{name}: {self.calls - before} calls")
