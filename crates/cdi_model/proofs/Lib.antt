@@ -8,3 +8,4 @@ pub mod Lawful
 pub mod Apart
 pub mod Tight
 pub mod Examples
+pub mod Witness
