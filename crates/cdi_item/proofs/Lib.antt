@@ -2,3 +2,4 @@ pub mod Scan
 pub mod Consistent
 pub mod Determined
 pub mod Trimmed
+pub mod Numbers

@@ -4,12 +4,12 @@
 use Prim.Native.Nat.{ℕ, zero, suc}
 use mathlib.Core.Path.{_≡_, refl, sym, ap, ap₂, _∙_}
 use mathlib.Core.List.{List, [], _∷_, _++_}
-use mathlib.Core.Bool.{Bool, true, false, cond, not, _&&_, _||_, and-eq-true-iff, true≢false}
+use mathlib.Core.Bool.{Bool, true, false, cond, not, _&&_, _||_, true≢false}
 use native.Mathlib.Omega.{arith}
-use lib.Dec.{eqb, ltb, leb}
+use lib.Dec.{eqb, ltb}
 use lib.ListN.{length, getD, drop, length-set, List·getD-eq-default}
 use lib.Seq.{ext-getD}
-use borrow.Author.Tests.{ltb-false, le-leb, leb-false}
+use borrow.Author.Tests.{ltb-false}
 use Rattle.logic.proofs.Choice.{choice, by-cases, implied}
 use Rattle.refusal.specs.Refusal.{Result, accepted, refused, andThen}
 use Rattle.cdi_frame.specs.declared.Span.{Span}
@@ -19,6 +19,7 @@ use Rattle.cdi_item.specs.declared.Item.{Item}
 use Rattle.cdi_item.specs.Items as item
 use Rattle.cdi_item.specs.Consistent.{every}
 use Rattle.cdi_item.proofs.Consistent.{found}
+use Rattle.cdi_item.proofs.Numbers.{no-input}
 use Rattle.cdi_command.specs.declared.Index.the-variants.{Slot as SlotAt, Input as InputAt}
 use Rattle.cdi_command.specs.declared.Command.{Command}
 use Rattle.cdi_command.specs.declared.Command.the-variants.{Read, ReadIndexed, ReadNv, ReadNvIndexed, Write, WriteIndexed, Program, ProgramIndexed, SetDefault, EraseAll}
@@ -29,7 +30,7 @@ use Rattle.cdi_state.specs.declared.Slot.{Slot}
 use Rattle.cdi_state.specs.declared.AnalogInput.{AnalogInput}
 use Rattle.cdi_state.specs.declared.Settings.{Settings}
 use Rattle.cdi_state.specs.declared.ModuleState.{ModuleState}
-use Rattle.cdi_state.specs.State.{inputBytes, slotBytes, noSlot, noInput, ArrayLengths}
+use Rattle.cdi_state.specs.State.{inputBytes, slotBytes, noSlot, noInput, ArrayLengths, inputAt}
 use Rattle.cdi_model.specs.Cells.{nv, working, Setting, lineMask, latchMask, txPower, controlSource, messageSelect, interruptMask, setting, input, slot, address, Single, name, firmware, serial, lines, rssi, ladj, events, flags, hardwarePower, hardwareLineMask, hardwareLatchMask, Cell, stored, single, isKey, isCell}
 use Rattle.cdi_model.specs.Step.{Step, powerUp, command}
 use Rattle.cdi_model.specs.Action.{Source, held, one, status, readFrom, readNvFrom, sourceOf, actionOf}
@@ -39,8 +40,8 @@ use Rattle.cdi_model.specs.Model.{gives, model}
 use Rattle.cdi_model.proofs.Checked.{accepted-checked}
 use Rattle.sequence.specs.Model.{next}
 use Rattle.sequence.specs.Machine.{Follows}
-use Rattle.cdi_module.specs.Value.{inputAt, valueRead}
-use Rattle.cdi_module.specs.Store.{withSettings, withAddress, addressFrom, settingStored, inputFrom, slotFrom, stateAfter, stateAtPowerUp}
+use Rattle.cdi_module.specs.Value.{valueRead}
+use Rattle.cdi_store.specs.Store.{withSettings, withAddress, addressFrom, settingStored, inputFrom, slotFrom, stateAfter, stateAtPowerUp}
 use Rattle.cdi_module.specs.Module as own
 use Rattle.cdi_module.specs.Machine.{settingHeld, singleHeld, cells, machine}
 use Rattle.cdi_module.proofs.Views.{inputs-length}
@@ -193,10 +194,7 @@ outside (single x) = []
 
 input-outside : (t : Settings) (n : ℕ) → length (t .«analog_inputs») ≡ 2 → isKey (input n) ≡ false → inputAt t n ≡ noInput
 input-outside t zero h e = refl
-input-outside t (suc i) h e =
-    by-cases (leb (suc i) 2)
-    (λ p. absurd (true≢false (sym (and-eq-true-iff (leb 1 (suc i)) (leb (suc i) 2) .1 (le-leb 1 (suc i) (omega arith), p)) ∙ e)))
-    (λ p. List·getD-eq-default (t .«analog_inputs») noInput {n = i} (omega (arith, leb-false (suc i) 2 p)))
+input-outside t (suc i) h e = List·getD-eq-default (t .«analog_inputs») noInput {n = i} (omega (arith, no-input i e))
 
 not-both : (a : Bool) → (a && true) ≡ false → a ≡ false
 not-both true e = e

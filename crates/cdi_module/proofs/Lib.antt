@@ -1,4 +1,3 @@
-pub mod Stores
 pub mod Values
 pub mod Responses
 pub mod Lengths
@@ -9,3 +8,4 @@ pub mod CellsAfter
 pub mod Follows
 pub mod Theorem
 pub mod Within
+pub mod Factory

@@ -10,8 +10,8 @@ use lib.ListN.{length, getD, take, drop}
 use lib.Seq.{take-suc, take-length, drop-length}
 use Rattle.logic.proofs.Rest.{one-more}
 use Rattle.cdi_state.specs.declared.Settings.{Settings}
-use Rattle.cdi_state.specs.State.{noInput}
-use Rattle.cdi_module.specs.Value.{nameShown, inputAt}
+use Rattle.cdi_state.specs.State.{noInput, inputAt}
+use Rattle.cdi_module.specs.Value.{nameShown}
 
 module _ (l : List ℕ) (i : ℕ) (h : i < length l) where
   one-taken : take (i + 1) l ≡ take i l ++ (getD l i 0 ∷ [])

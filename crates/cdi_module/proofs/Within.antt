@@ -1,4 +1,4 @@
--- A response lies within its buffer.
+-- The length that a result tells is at most that of the buffer afterwards, so a caller can take the response out of it.
 -- Assumes nothing.
 use Prim.Native.Nat.{ℕ, _≤_}
 use mathlib.Core.Path.{_≡_, sym, subst}

@@ -5,10 +5,9 @@ use lib.ListN.{getD}
 use Rattle.sequence.specs.Machine.{Machine}
 use Rattle.cdi_state.specs.declared.Settings.{Settings}
 use Rattle.cdi_state.specs.declared.ModuleState.{ModuleState}
-use Rattle.cdi_state.specs.State.{inputBytes, slotBytes, noSlot, ArrayLengths}
+use Rattle.cdi_state.specs.State.{inputBytes, slotBytes, inputAt, noSlot, ArrayLengths}
 use Rattle.cdi_model.specs.Cells.{nv, working, Setting, lineMask, latchMask, txPower, controlSource, messageSelect, interruptMask, setting, input, slot, address, Single, name, firmware, serial, lines, rssi, ladj, events, flags, hardwarePower, hardwareLineMask, hardwareLatchMask, Cell, stored, single}
 use Rattle.cdi_model.specs.Model.{model}
-use Rattle.cdi_module.specs.Value.{inputAt}
 use Rattle.cdi_module.specs.Module.{step, resultOf}
 
 abbrev pub settingHeld : Settings → Setting → ℕ

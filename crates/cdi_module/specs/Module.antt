@@ -16,7 +16,7 @@ use Rattle.cdi_state.specs.declared.ModuleState.{ModuleState}
 use Rattle.cdi_state.specs.Valid.{isValid}
 use Rattle.cdi_model.specs.Step.{Step, powerUp, command, StepResult, poweredUp, responded}
 use Rattle.cdi_module.specs.Value.{valueRead}
-use Rattle.cdi_module.specs.Store.{stateAfter, stateAtPowerUp}
+use Rattle.cdi_store.specs.Store.{stateAfter, stateAtPowerUp}
 
 -- the longest response: three bytes of the frame, C1, the item and 17 bytes of name
 abbrev pub responseMax : ℕ

@@ -1,5 +1,5 @@
 -- Document 01, "Items": the bytes that Read and Read NV answer with, as the module has them in its state.
-use Prim.Native.Nat.{ℕ, zero, suc}
+use Prim.Native.Nat.{ℕ}
 use mathlib.Core.List.{List, [], _∷_}
 use mathlib.Core.Bool.{cond}
 use lib.Bits.{bitAnd, bitOr}
@@ -10,35 +10,17 @@ use Rattle.cdi_command.specs.declared.Index.{Index}
 use Rattle.cdi_command.specs.declared.Index.the-variants.{Slot, Input}
 use Rattle.cdi_command.specs.declared.Command.{Command}
 use Rattle.cdi_command.specs.declared.Command.the-variants.{Read, ReadIndexed, ReadNv, ReadNvIndexed, Write, WriteIndexed, Program, ProgramIndexed, SetDefault, EraseAll}
-use Rattle.cdi_state.specs.declared.AnalogInput.{AnalogInput}
 use Rattle.cdi_state.specs.declared.Settings.{Settings}
 use Rattle.cdi_state.specs.declared.HardwareSelection.{HardwareSelection}
 use Rattle.cdi_state.specs.declared.ModuleState.{ModuleState}
-use Rattle.cdi_state.specs.State.{inputBytes, slotBytes, noInput, noSlot}
+use Rattle.cdi_state.specs.State.{inputBytes, slotBytes, inputAt, noSlot}
+use Rattle.cdi_store.specs.Store.{settingBytes, place}
 
--- ---- the settings of one byte as a list, in the order of their items: 11 to 15, 25
-abbrev pub settingBytes : Settings → List ℕ
-settingBytes t =
-    t .«line_mask» ∷ t .«latch_mask» ∷ t .«tx_power» ∷ t .«control_source» ∷ t .«message_select» ∷ t .«interrupt_mask» ∷ []
-
--- an item's place in that list; 25's for any other
-abbrev pub place : ℕ → ℕ
-place code =
-    cond (eqb code item.lineMask) 0
-    (cond (eqb code item.latchMask) 1
-    (cond (eqb code item.txPower) 2
-    (cond (eqb code item.controlSource) 3
-    (cond (eqb code item.messageSelect) 4 5))))
-
+-- the byte of an item in one copy of the settings
 unfoldable pub settingByte : Settings → ℕ → ℕ
 settingByte t code = getD (settingBytes t) (place code) 0
 
--- the row of an input, by its number from 1 on
-abbrev pub inputAt : Settings → ℕ → AnalogInput
-inputAt t zero = noInput
-inputAt t (suc i) = getD (t .«analog_inputs») i noInput
-
--- a name's bytes up to and with the first 00
+-- a name ends with its first 00
 unfoldable pub nameShown : List ℕ → List ℕ
 nameShown [] = []
 nameShown (b ∷ bs) = cond (eqb b 0) (b ∷ []) (b ∷ nameShown bs)

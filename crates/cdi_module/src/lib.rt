@@ -1,7 +1,6 @@
 // The module: a command block executed on a state, and a power-up. Document 01, "What the unit serves". The sequence theorem is
 // about these two entries.
 mod response;
-mod store;
 mod value;
 
 ghost use mathlib.Core.Path.{_≡_};
@@ -59,7 +58,7 @@ fn execute_payload(state: ModuleState, payload: &[u8], response: &mut [u8]) -> E
         Validated::Refused(number) => refused(state, number),
         Validated::Accepted(command) => {
             let length = response::write_response(state, command, payload, response);
-            let after = store::store(state, command);
+            let after = cdi_store::store(state, command);
             Execution {
                 state: after,
                 outcome: Outcome {
@@ -103,7 +102,7 @@ pub fn power_up(state: ModuleState) -> PowerUp
             refusal: INVALID,
         };
     }
-    let after = store::restart(state);
+    let after = cdi_store::restart(state);
     PowerUp {
         state: after,
         refusal: NONE,

@@ -1,5 +1,5 @@
-// Responses: document 01, "Frame" (answers). The frame writer lends the response buffer's part from byte three on to the payload
-// writers.
+// Responses: document 01, "Frame" (answers). `write_response` writes the frame, and has its payload written by the functions above it,
+// which see only the part of the buffer behind the frame's first bytes.
 ghost use mathlib.Core.Path.{_≡_};
 ghost use mathlib.Core.Bool.{true};
 ghost use mathlib.Core.List.{_∷_};
@@ -102,6 +102,9 @@ fn put_payload(state: ModuleState, command: Command, payload: &[u8], out: &mut [
     }
 }
 
+// The payload stands behind the start byte, the sync byte and the length byte.
+const PAYLOAD_START: usize = 3;
+
 // Writes the response to an accepted command over the front of `response`, and returns its length.
 pub(crate) fn write_response(
     state: ModuleState,
@@ -112,9 +115,9 @@ pub(crate) fn write_response(
     requires { ⌜ (WellFormed command × (commandPayload command ≡ now payload)) × (responseMax ≤ length (now response)) ⌝ }
     ensures { λ r. ⌜ (r ≡ length (responseTo state command)) × (now (response .exit) ≡ written (now (response .entry)) (responseTo state command)) ⌝ }
 {
-    let length = put_payload(state, command, payload, &mut response[3..]);
+    let length = put_payload(state, command, payload, &mut response[PAYLOAD_START..]);
     response[0] = START;
     response[1] = SYNC;
     response[2] = LENGTH_BASE + length as u8;
-    3 + length
+    PAYLOAD_START + length
 }

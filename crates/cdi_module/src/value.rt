@@ -14,6 +14,7 @@ use cdi_item::code;
 use cdi_state::AnalogInput;
 use cdi_state::HardwareSelection;
 use cdi_state::ModuleState;
+use cdi_state::NAME_LENGTH;
 use cdi_state::Settings;
 use cdi_state::Slot;
 
@@ -43,18 +44,18 @@ fn put_byte(byte: u8, out: &mut [u8]) -> usize
     1
 }
 
-// How many bytes of a name are shown: up to and with the first 00.
+// How many bytes of a name are shown: those before its first 00, and that one.
 fn name_length(name: [u8; 17]) -> usize
     ensures { λ r. ⌜ (r ≤ 17) × (take r name ≡ nameShown name) ⌝ }
 {
     let mut i: usize = 0;
-    while i < 17 {
+    while i < NAME_LENGTH {
         if name[i] == 0 {
             return i + 1;
         }
         i += 1;
     }
-    17
+    NAME_LENGTH
 }
 
 // The byte of an item in one copy of the settings.
@@ -160,8 +161,7 @@ pub(crate) fn put_plain(state: ModuleState, settings: Settings, item: u8, out: &
     if item == code::EVENTS {
         return put_byte(state.events, out);
     }
-    let byte = setting_byte(settings, item);
-    put_byte(byte, out)
+    put_byte(setting_byte(settings, item), out)
 }
 
 // Writes a row of item 18.

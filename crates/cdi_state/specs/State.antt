@@ -1,5 +1,5 @@
 -- Document 01, "Items": what the state's parts are as bytes, the defaults and the factory state.
-use Prim.Native.Nat.{ℕ, _+_, _*_, _<_}
+use Prim.Native.Nat.{ℕ, zero, suc, _+_, _*_, _<_}
 use mathlib.Core.Path.{_≡_}
 use mathlib.Core.List.{List, [], _∷_, _++_}
 use lib.IntN.{ℤ}
@@ -19,7 +19,7 @@ slotBytes s = s .address ++ s .mask ∷ []
 
 -- an input's offset: two bytes, the high one first, in two's complement (house)
 abbrev pub inputOffset : AnalogInput → ℤ
-inputOffset x = signed 65536 (getD (x .offset) 0 0 * 256 + getD (x .offset) 1 0)
+inputOffset x = signed 65536 (getD (inputBytes x) 3 0 * 256 + getD (inputBytes x) 4 0)
 
 -- what stands for a row past the end of an array
 abbrev pub noInput : AnalogInput
@@ -27,6 +27,11 @@ noInput = record { channel = 0; readings = 0; reference = 0; offset = [] }
 
 abbrev pub noSlot : Slot
 noSlot = record { address = []; mask = 0 }
+
+-- the row of an input, by its number from 1 on
+abbrev pub inputAt : Settings → ℕ → AnalogInput
+inputAt t zero = noInput
+inputAt t (suc i) = getD (t .«analog_inputs») i noInput
 
 -- Set Default's values
 abbrev pub defaultInput : AnalogInput

@@ -113,7 +113,8 @@ fn signed_pair(high: u8, low: u8) -> i16
     (raw - 0x8000) as i16 + i16::MIN
 }
 
-const NAME_LENGTH: usize = 17;
+// The bytes of a stored name.
+pub const NAME_LENGTH: usize = 17;
 
 const SLOT_COUNT: usize = 40;
 

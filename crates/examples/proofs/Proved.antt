@@ -11,7 +11,7 @@ use Rattle.cdi_frame.specs.Frame.{wakes, lengthAt, readFrame}
 use Rattle.cdi_command.specs.Command.{select, commandOn, validateItem, isServed, isHeadLengthRight, validatePayload}
 use Rattle.cdi_state.specs.Valid.{hasZero, validSlots, isValid}
 use Rattle.cdi_module.specs.Value.{settingByte, plainValue}
-use Rattle.cdi_module.specs.Store.{settingStored}
+use Rattle.cdi_store.specs.Store.{settingStored}
 use Rattle.cdi_module.specs.Module.{commandIn, decide, step, resultOf}
 use Rattle.examples.specs.Examples.{examples, AllHold}
 
@@ -21,4 +21,4 @@ example-count = refl
 pub examples-hold : AllHold examples
 unfolding written run anyOver sumOf items itemIn itemOf acceptedValue wakes lengthAt readFrame select commandOn validateItem isServed isHeadLengthRight validatePayload hasZero validSlots isValid settingByte plainValue settingStored commandIn decide step resultOf
 examples-hold =
-    (refl, (refl, (refl, (refl, (refl, (refl, (refl, (refl, (refl, (refl, (refl, (refl, (refl, (refl, ((refl, refl), ((refl, refl), tt))))))))))))))))
+    (refl, (refl, (refl, (refl, (refl, (refl, (refl, (refl, (refl, (refl, (refl, (refl, (refl, (refl, ((refl, refl), ((refl, tt), tt))))))))))))))))

@@ -31,11 +31,7 @@ write-response-requires c κs =
     ((accepted-well-formed p _ e, accepted-payload p _ e), search needs)
 
 store-requires : tie.Need-store-requires
-store-requires c κs =
-    let d = c .before .before .before .before .before in
-    let v = d .before .before in
-    accepted-well-formed (v .before .before .before .args .payload .now) _
-    (sym (v .validate-payload .ensures) ∙ ap validatedResult (d .validated2 .given .1))
+store-requires c κs = search needs
 
 returns : tie.Need-returns
 returns c =

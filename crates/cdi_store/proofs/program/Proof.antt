@@ -2,8 +2,8 @@
 -- Assumes nothing.
 use borrow.Author.Tests.{eq-eqb, ne-eqb}
 use borrow.Author.Needs.{needs}
-use Rattle.cdi_module.proofs.store.program.Statement.{statement}
-use Rattle.cdi_module.proofs.store.program.Tie as tie
+use Rattle.cdi_store.proofs.program.Statement.{statement}
+use Rattle.cdi_store.proofs.program.Tie as tie
 
 returns : tie.Need-returns
 returns c = simp (eq-eqb _ _ (c .before .if1 .taken))

@@ -1,9 +1,7 @@
-// What an accepted command and a power-up store in the state: document 01, "Items".
+// What a command and a power-up store in a state: document 01, "Items". A command is taken as it is; whether it is accepted the module
+// decides.
 ghost use mathlib.Core.Path.{_≡_};
-ghost use mathlib.Core.Bool.{true};
-ghost use Rattle.cdi_item.specs.Items.{isSlotIndex, isInputNumber};
-ghost use Rattle.cdi_command.specs.Payload.{fits, WellFormed};
-ghost use Rattle.cdi_module.specs.Store.{settingStored, inputFrom, inputStored, slotFrom, plainWritten, rowWritten, plainProgrammed, slotProgrammed, rowProgrammed, defaulted, erased, stateAfter, stateAtPowerUp};
+ghost use Rattle.cdi_store.specs.Store.{settingStored, inputFrom, inputStored, slotFrom, plainWritten, rowWritten, plainProgrammed, slotProgrammed, rowProgrammed, defaulted, erased, stateAfter, stateAtPowerUp};
 use cdi_command::Command;
 use cdi_command::Index;
 use cdi_item::InputNumber;
@@ -46,12 +44,14 @@ fn with_setting(settings: Settings, item: u8, byte: u8) -> Settings
     t
 }
 
-// One copy of the settings with the row of an input, whose numbers count from 1.
+// One copy of the settings with the row of an input, whose numbers count from 1; another number names no row.
 fn with_input(settings: Settings, number: InputNumber, value: Value) -> Settings
-    requires { ⌜ isInputNumber (number .0) ≡ true ⌝ }
     ensures { λ r. ⌜ r ≡ inputStored settings (number .0) (inputFrom value) ⌝ }
 {
     let mut t = settings;
+    if !cdi_item::is_input_number(number.0) {
+        return t;
+    }
     let i = (number.0 - 1) as usize;
     let row = AnalogInput {
         channel: value.byte0,
@@ -63,12 +63,14 @@ fn with_input(settings: Settings, number: InputNumber, value: Value) -> Settings
     t
 }
 
-// The state with a slot, whose indices count from 0.
+// The state with a slot, whose indices count from 0; another index names none.
 fn with_slot(state: ModuleState, index: SlotIndex, value: Value) -> ModuleState
-    requires { ⌜ isSlotIndex (index .0) ≡ true ⌝ }
     ensures { λ r. ⌜ r ≡ slotProgrammed state (index .0) (slotFrom value) ⌝ }
 {
     let mut q = state;
+    if !cdi_item::is_slot_index(index.0) {
+        return q;
+    }
     let i = index.0 as usize;
     let slot = Slot {
         address: [value.byte0, value.byte1, value.byte2, value.byte3],
@@ -88,8 +90,7 @@ fn write(state: ModuleState, item: Item, value: Value) -> ModuleState
     q
 }
 
-fn write_row(state: ModuleState, item: Item, index: Index, value: Value) -> ModuleState
-    requires { ⌜ fits item index ≡ true ⌝ }
+fn write_row(state: ModuleState, index: Index, value: Value) -> ModuleState
     ensures { λ r. ⌜ r ≡ rowWritten state index value ⌝ }
 {
     let mut q = state;
@@ -119,8 +120,7 @@ fn program(state: ModuleState, item: Item, value: Value) -> ModuleState
     q
 }
 
-fn program_row(state: ModuleState, item: Item, index: Index, value: Value) -> ModuleState
-    requires { ⌜ fits item index ≡ true ⌝ }
+fn program_row(state: ModuleState, index: Index, value: Value) -> ModuleState
     ensures { λ r. ⌜ r ≡ rowProgrammed state index value ⌝ }
 {
     let mut q = state;
@@ -155,9 +155,8 @@ fn erase_all(state: ModuleState) -> ModuleState
     q
 }
 
-// The state after an accepted command.
-pub(crate) fn store(state: ModuleState, command: Command) -> ModuleState
-    requires { ⌜ WellFormed command ⌝ }
+// The state after a command.
+pub fn store(state: ModuleState, command: Command) -> ModuleState
     ensures { λ r. ⌜ r ≡ stateAfter state command ⌝ }
 {
     match command {
@@ -166,16 +165,16 @@ pub(crate) fn store(state: ModuleState, command: Command) -> ModuleState
         Command::ReadNv(_) => state,
         Command::ReadNvIndexed(_, _) => state,
         Command::Write(item, value) => write(state, item, value),
-        Command::WriteIndexed(item, index, value) => write_row(state, item, index, value),
+        Command::WriteIndexed(_, index, value) => write_row(state, index, value),
         Command::Program(item, value) => program(state, item, value),
-        Command::ProgramIndexed(item, index, value) => program_row(state, item, index, value),
+        Command::ProgramIndexed(_, index, value) => program_row(state, index, value),
         Command::SetDefault => set_default(state),
         Command::EraseAll => erase_all(state),
     }
 }
 
 // The state after a power-up.
-pub(crate) fn restart(state: ModuleState) -> ModuleState
+pub fn restart(state: ModuleState) -> ModuleState
     ensures { λ r. ⌜ r ≡ stateAtPowerUp state ⌝ }
 {
     let mut q = state;

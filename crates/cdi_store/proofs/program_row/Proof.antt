@@ -1,28 +1,23 @@
--- An index that fits is in range, and each row is stored in every copy that there is of it.
+-- Each row is stored in every copy that there is of it.
 -- Assumes nothing.
 use borrow.Author.Needs.{needs}
-use Rattle.cdi_module.proofs.Stores.{fits-row}
-use Rattle.cdi_module.proofs.store.program_row.Statement.{statement}
-use Rattle.cdi_module.proofs.store.program_row.Tie as tie
+use Rattle.cdi_store.proofs.program_row.Statement.{statement}
+use Rattle.cdi_store.proofs.program_row.Tie as tie
 
 enum-known-index : tie.Need-enum-known-index
 enum-known-index c = search needs
 
 with-slot-requires : tie.Need-with-slot-requires
-with-slot-requires c κs =
-    let s = c .before .before .before in
-    rw (c .before .index .given .1) at (fits-row (s .args .item) (s .args .index) (s .pre))
+with-slot-requires c κs = search needs
 
 enum-known-index-2 : tie.Need-enum-known-index-2
 enum-known-index-2 c = search needs
 
 with-input-requires : tie.Need-with-input-requires
-with-input-requires c κs =
-    let s = c .before .before .before in
-    rw (c .before .index2 .given .1) at (fits-row (s .args .item) (s .args .index) (s .pre))
+with-input-requires c κs = search needs
 
 with-input-requires-2 : tie.Need-with-input-requires-2
-with-input-requires-2 c κs = with-input-requires (c .before) κs
+with-input-requires-2 c κs = search needs
 
 returns : tie.Need-returns
 returns c = rw (c .before .before .index .given .1) (c .with-slot .ensures)

@@ -1,9 +1,9 @@
 -- Each item of the five is told by its own code, and what is none of them is the interrupt mask, the last of the list.
 -- Assumes nothing.
 use borrow.Author.Tests.{ne-eqb}
-use Rattle.cdi_module.specs.Store.{settingStored}
-use Rattle.cdi_module.proofs.store.with_setting.Statement.{statement}
-use Rattle.cdi_module.proofs.store.with_setting.Tie as tie
+use Rattle.cdi_store.specs.Store.{settingStored}
+use Rattle.cdi_store.proofs.with_setting.Statement.{statement}
+use Rattle.cdi_store.proofs.with_setting.Tie as tie
 
 returns : tie.Need-returns
 unfolding settingStored

@@ -1,9 +1,8 @@
 -- A slot has no working copy, and an input that fits has a row in it.
 -- Assumes nothing.
 use borrow.Author.Needs.{needs}
-use Rattle.cdi_module.proofs.Stores.{fits-row}
-use Rattle.cdi_module.proofs.store.write_row.Statement.{statement}
-use Rattle.cdi_module.proofs.store.write_row.Tie as tie
+use Rattle.cdi_store.proofs.write_row.Statement.{statement}
+use Rattle.cdi_store.proofs.write_row.Tie as tie
 
 enum-told : tie.Need-enum-told
 enum-told c = search needs
@@ -12,9 +11,7 @@ enum-known-index : tie.Need-enum-known-index
 enum-known-index c = search needs
 
 with-input-requires : tie.Need-with-input-requires
-with-input-requires c κs =
-    let s = c .before .before .before in
-    rw (c .before .index .given .1) at (fits-row (s .args .item) (s .args .index) (s .pre))
+with-input-requires c κs = search needs
 
 returns : tie.Need-returns
 returns c = rw (c .enum-told .given .1)

@@ -1,8 +1,8 @@
 -- The working copy with the byte stands in the place of the working copy.
 -- Assumes nothing.
 use borrow.Author.Needs.{needs}
-use Rattle.cdi_module.proofs.store.write.Statement.{statement}
-use Rattle.cdi_module.proofs.store.write.Tie as tie
+use Rattle.cdi_store.proofs.write.Statement.{statement}
+use Rattle.cdi_store.proofs.write.Tie as tie
 
 with-setting-requires : tie.Need-with-setting-requires
 with-setting-requires c κs = search needs

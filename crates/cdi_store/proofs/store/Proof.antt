@@ -1,8 +1,8 @@
 -- Each command is stored by its own function, and Read and Read NV store nothing.
 -- Assumes nothing.
 use borrow.Author.Needs.{needs}
-use Rattle.cdi_module.proofs.store.store.Statement.{statement}
-use Rattle.cdi_module.proofs.store.store.Tie as tie
+use Rattle.cdi_store.proofs.store.Statement.{statement}
+use Rattle.cdi_store.proofs.store.Tie as tie
 
 enum-told : tie.Need-enum-told
 enum-told c = search needs
@@ -26,7 +26,7 @@ enum-known-command-2 : tie.Need-enum-known-command-2
 enum-known-command-2 c = search needs
 
 write-row-requires : tie.Need-write-row-requires
-write-row-requires c κs = (rw (c .before .command2 .given .1) at (c .before .before .before .pre)) .1
+write-row-requires c κs = search needs
 
 enum-known-command-3 : tie.Need-enum-known-command-3
 enum-known-command-3 c = search needs
@@ -38,7 +38,7 @@ enum-known-command-4 : tie.Need-enum-known-command-4
 enum-known-command-4 c = search needs
 
 program-row-requires : tie.Need-program-row-requires
-program-row-requires c κs = (rw (c .before .command4 .given .1) at (c .before .before .before .pre)) .1
+program-row-requires c κs = search needs
 
 enum-told-5 : tie.Need-enum-told-5
 enum-told-5 c = search needs
