@@ -11,44 +11,16 @@ use Rattle.cdi_item.specs.Values.{acceptedValue}
 use Rattle.cdi_frame.specs.Frame.{wakes, lengthAt, readFrame}
 use Rattle.cdi_command.specs.Command.{select, commandOn, validateItem, isServed, isHeadLengthRight, validatePayload}
 use Rattle.sequence.specs.Model.{results}
-use Rattle.cdi_model.specs.Cells.{nv, working, Setting, lineMask, latchMask, txPower, controlSource, messageSelect, interruptMask, setting, input, slot, address, Single, name, firmware, serial, lines, rssi, ladj, events, flags, hardwarePower, hardwareLineMask, hardwareLatchMask, Cell, stored, single, same}
+use Rattle.cdi_model.specs.Cells.{nv, working, txPower, controlSource, messageSelect, interruptMask, setting, input, slot, address, Single, name, firmware, serial, lines, rssi, ladj, events, flags, hardwarePower, hardwareLineMask, hardwareLatchMask, Cell, stored, single, same}
 use Rattle.cdi_model.specs.Values.{allZero, hasZero, upToZero}
+use Rattle.cdi_model.specs.Factory.{factoryCells}
 use Rattle.cdi_model.specs.Step.{Step, powerUp, command, StepResult, poweredUp, responded}
 use Rattle.cdi_model.specs.Action.{actionOf}
 use Rattle.cdi_model.specs.Table.{stores}
 use Rattle.cdi_model.specs.Model.{Cells, allBelow, isValid, decide, decidePayload, decideBlock, gives, valueRead, responsePayload, resultOf, model}
 
 -- ---- cells
--- the factory's: RSSI 80 80, item 14 as 06, each input as FF 01 00 00 00, every other byte 00
-abbrev pub factorySetting : Setting → ℕ
-factorySetting lineMask = 0x00
-factorySetting latchMask = 0x00
-factorySetting txPower = 0x00
-factorySetting controlSource = 0x06
-factorySetting messageSelect = 0x00
-factorySetting interruptMask = 0x00
-
-abbrev pub factorySingle : Single → List ℕ
-factorySingle name = replicate 17 0x00
-factorySingle firmware = replicate 3 0x00
-factorySingle serial = replicate 4 0x00
-factorySingle lines = replicate 2 0x00
-factorySingle rssi = 0x80 ∷ 0x80 ∷ []
-factorySingle ladj = 0x00 ∷ []
-factorySingle events = 0x00 ∷ []
-factorySingle flags = 0x00 ∷ []
-factorySingle hardwarePower = 0x00 ∷ []
-factorySingle hardwareLineMask = 0x00 ∷ []
-factorySingle hardwareLatchMask = 0x00 ∷ []
-
-abbrev pub factoryCells : Cells
-factoryCells (stored copy (setting s)) = factorySetting s ∷ []
-factoryCells (stored copy (input n)) = 0xFF ∷ 0x01 ∷ 0x00 ∷ 0x00 ∷ 0x00 ∷ []
-factoryCells (stored copy (slot i)) = replicate 5 0x00
-factoryCells (stored copy address) = replicate 4 0x00
-factoryCells (single x) = factorySingle x
-
--- the same with another value in one cell
+-- the factory's, with another value in one cell
 abbrev pub factoryWith : Cell → List ℕ → Cells
 factoryWith d v = λ c. cond (same c d) v (factoryCells c)
 
@@ -202,12 +174,38 @@ commands =
     refuses 8 (0x80 ∷ 0x55 ∷ 0x82 ∷ 0x01 ∷ 0x18 ∷ []) ∷
     refuses 9 (0x80 ∷ 0x55 ∷ 0x82 ∷ 0x01 ∷ 0x17 ∷ []) ∷
     refuses 10 (0x80 ∷ 0x55 ∷ 0x83 ∷ 0x02 ∷ 0x10 ∷ 0x00 ∷ []) ∷
+    -- commands that an item lacks, beside one that it has
+    gets (0x80 ∷ 0x55 ∷ 0x82 ∷ 0x03 ∷ 0x11 ∷ []) (0x80 ∷ 0x55 ∷ 0x83 ∷ 0xC2 ∷ 0x11 ∷ 0x00 ∷ []) ∷
+    refuses 10 (0x80 ∷ 0x55 ∷ 0x82 ∷ 0x03 ∷ 0x20 ∷ []) ∷
+    refuses 10 (0x80 ∷ 0x55 ∷ 0x84 ∷ 0x04 ∷ 0x21 ∷ 0x80 ∷ 0x80 ∷ []) ∷
+    refuses 10 (0x80 ∷ 0x55 ∷ 0x83 ∷ 0x02 ∷ 0x26 ∷ 0x00 ∷ []) ∷
+    refuses 10 (0x80 ∷ 0x55 ∷ 0x88 ∷ 0x02 ∷ 0x18 ∷ 0x00 ∷ 0x01 ∷ 0x02 ∷ 0x03 ∷ 0x04 ∷ 0x05 ∷ []) ∷
+    -- where two apply, the first of the order: 6 before 7, 7 before 8, 8 (a long 81) before 9, 9 before 8, 8 before 11, 11 before 12
+    refuses 6 (0x80 ∷ 0x55 ∷ 0x81 ∷ 0x05 ∷ 0x00 ∷ []) ∷
+    refuses 7 (0x80 ∷ 0x55 ∷ 0x81 ∷ 0x05 ∷ []) ∷
+    refuses 8 (0x80 ∷ 0x55 ∷ 0x82 ∷ 0x81 ∷ 0x17 ∷ []) ∷
+    refuses 9 (0x80 ∷ 0x55 ∷ 0x83 ∷ 0x01 ∷ 0x17 ∷ 0x00 ∷ []) ∷
+    refuses 8 (0x80 ∷ 0x55 ∷ 0x82 ∷ 0x01 ∷ 0x16 ∷ []) ∷
+    refuses 8 (0x80 ∷ 0x55 ∷ 0x83 ∷ 0x01 ∷ 0x15 ∷ 0x00 ∷ []) ∷
+    refuses 11 (0x80 ∷ 0x55 ∷ 0x88 ∷ 0x04 ∷ 0x18 ∷ 0x28 ∷ 0x00 ∷ 0x00 ∷ 0x00 ∷ 0x00 ∷ 0x01 ∷ []) ∷
+    []
+
+-- of the used cells, those that no command but a Program of the address stores in, and the lines and LADJ
+abbrev pub kept : List Row
+kept =
+    gets (0x80 ∷ 0x55 ∷ 0x82 ∷ 0x01 ∷ 0x01 ∷ []) (0x80 ∷ 0x55 ∷ 0x85 ∷ 0xC1 ∷ 0x01 ∷ 0x41 ∷ 0x42 ∷ 0x00 ∷ []) ∷
+    gets (0x80 ∷ 0x55 ∷ 0x82 ∷ 0x01 ∷ 0x02 ∷ []) (0x80 ∷ 0x55 ∷ 0x85 ∷ 0xC1 ∷ 0x02 ∷ 0x01 ∷ 0x02 ∷ 0x03 ∷ []) ∷
+    gets (0x80 ∷ 0x55 ∷ 0x82 ∷ 0x01 ∷ 0x03 ∷ []) (0x80 ∷ 0x55 ∷ 0x86 ∷ 0xC1 ∷ 0x03 ∷ 0x0A ∷ 0x0B ∷ 0x0C ∷ 0x0D ∷ []) ∷
+    gets (0x80 ∷ 0x55 ∷ 0x82 ∷ 0x01 ∷ 0x10 ∷ []) (0x80 ∷ 0x55 ∷ 0x86 ∷ 0xC1 ∷ 0x10 ∷ 0xDE ∷ 0xAD ∷ 0xBE ∷ 0xEF ∷ []) ∷
+    gets (0x80 ∷ 0x55 ∷ 0x82 ∷ 0x01 ∷ 0x20 ∷ []) (0x80 ∷ 0x55 ∷ 0x84 ∷ 0xC1 ∷ 0x20 ∷ 0x5A ∷ 0xA5 ∷ []) ∷
+    gets (0x80 ∷ 0x55 ∷ 0x82 ∷ 0x01 ∷ 0x22 ∷ []) (0x80 ∷ 0x55 ∷ 0x83 ∷ 0xC1 ∷ 0x22 ∷ 0x77 ∷ []) ∷
+    gets (0x80 ∷ 0x55 ∷ 0x82 ∷ 0x01 ∷ 0x23 ∷ []) (0x80 ∷ 0x55 ∷ 0x86 ∷ 0xC1 ∷ 0x23 ∷ 0x00 ∷ 0x11 ∷ 0x22 ∷ 0x33 ∷ []) ∷
     []
 
 -- from the used cells
 abbrev pub statuses : List Row
 statuses =
-    -- the name up to and with its first 00; firmware, serial, address
+    -- the name as far as its first 00; firmware, serial, address
     gets (0x80 ∷ 0x55 ∷ 0x82 ∷ 0x01 ∷ 0x01 ∷ []) (0x80 ∷ 0x55 ∷ 0x85 ∷ 0xC1 ∷ 0x01 ∷ 0x41 ∷ 0x42 ∷ 0x00 ∷ []) ∷
     gets (0x80 ∷ 0x55 ∷ 0x82 ∷ 0x03 ∷ 0x01 ∷ []) (0x80 ∷ 0x55 ∷ 0x85 ∷ 0xC2 ∷ 0x01 ∷ 0x41 ∷ 0x42 ∷ 0x00 ∷ []) ∷
     gets (0x80 ∷ 0x55 ∷ 0x82 ∷ 0x01 ∷ 0x02 ∷ []) (0x80 ∷ 0x55 ∷ 0x85 ∷ 0xC1 ∷ 0x02 ∷ 0x01 ∷ 0x02 ∷ 0x03 ∷ []) ∷
@@ -246,7 +244,12 @@ statuses =
     gets (0x80 ∷ 0x55 ∷ 0x82 ∷ 0x01 ∷ 0x26 ∷ []) (0x80 ∷ 0x55 ∷ 0x83 ∷ 0xC1 ∷ 0x26 ∷ 0x00 ∷ []) ∷
     gets (0x80 ∷ 0x55 ∷ 0x82 ∷ 0x01 ∷ 0x23 ∷ []) (0x80 ∷ 0x55 ∷ 0x86 ∷ 0xC1 ∷ 0x23 ∷ 0x00 ∷ 0x11 ∷ 0x22 ∷ 0x33 ∷ []) ∷
     gets (0x80 ∷ 0x55 ∷ 0x82 ∷ 0x01 ∷ 0x25 ∷ []) (0x80 ∷ 0x55 ∷ 0x83 ∷ 0xC1 ∷ 0x25 ∷ 0x00 ∷ []) ∷
-    []
+    -- what a power-up, Set Default and Erase leave
+    kept ++
+    gets (0x80 ∷ 0x55 ∷ 0x81 ∷ 0x81 ∷ []) (0x80 ∷ 0x55 ∷ 0x83 ∷ 0xC0 ∷ 0x00 ∷ 0x81 ∷ []) ∷
+    kept ++
+    gets (0x80 ∷ 0x55 ∷ 0x81 ∷ 0x82 ∷ []) (0x80 ∷ 0x55 ∷ 0x83 ∷ 0xC0 ∷ 0x00 ∷ 0x82 ∷ []) ∷
+    kept
 
 -- from cells with the longest name: the response fills its buffer
 abbrev pub names : List Row

@@ -5,6 +5,7 @@ pub mod Checked
 pub mod Validity
 pub mod Stored
 pub mod Lawful
+pub mod Numbers
 pub mod Apart
 pub mod Tight
 pub mod Examples

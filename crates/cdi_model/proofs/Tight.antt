@@ -9,11 +9,11 @@ use lib.ListN.{length}
 use Rattle.cdi_item.specs.Items.{items, itemIn, itemOf}
 use Rattle.cdi_item.specs.Values.{acceptedValue}
 use Rattle.cdi_command.specs.Command.{select, commandOn, validateItem, isServed, isHeadLengthRight, validatePayload}
-use Rattle.cdi_model.specs.Cells.{nv, working, lineMask, latchMask, txPower, controlSource, messageSelect, interruptMask, setting, input, slot, address, name, firmware, serial, lines, rssi, ladj, events, flags, hardwarePower, hardwareLineMask, hardwareLatchMask, Cell, stored, single, hasWorking, isKey, isCell}
+use Rattle.cdi_model.specs.Cells.{nv, working, lineMask, latchMask, txPower, controlSource, messageSelect, interruptMask, setting, input, slot, address, name, firmware, serial, lines, rssi, ladj, events, flags, hardwarePower, hardwareLineMask, hardwareLatchMask, Cell, stored, single, Key, hasWorking, isKey, isCell}
 use Rattle.cdi_model.specs.Values.{allZero, hasZero, upToZero}
-use Rattle.cdi_model.specs.Action.{actionOf}
-use Rattle.cdi_model.specs.Table.{isAccepted, reads, stores}
-use Rattle.cdi_model.specs.Model.{allBelow, isValid, decidePayload, gives, valueRead}
+use Rattle.cdi_model.specs.Action.{Action, write, program, actionOf}
+use Rattle.cdi_model.specs.Table.{Decision, execute, isAccepted, reads, stores}
+use Rattle.cdi_model.specs.Model.{allBelow, isValid, decidePayload, gives, valueRead, responsePayload}
 use Rattle.cdi_model.specs.Tight.{all, everyCell, isIn, allApart, samplePayloads, sampleDecisions, stateOf, base, hardwareShown, workingShown, other, differIn, changed, isTight}
 use Rattle.cdi_model.proofs.Validity.{all-at, each-input}
 
@@ -81,5 +81,18 @@ states-serve = (refl, refl, refl)
 -- ---- the table
 pub table-is-tight : all isTight sampleDecisions ≡ true
 unfolding isTight sampleDecisions samplePayloads items flatMap decidePayload itemIn itemOf acceptedValue
-    select commandOn validateItem isServed isHeadLengthRight validatePayload stateOf everyCell reads stores gives valueRead upToZero actionOf
+    select commandOn validateItem isServed isHeadLengthRight validatePayload stateOf everyCell reads stores gives valueRead responsePayload upToZero actionOf
 table-is-tight = refl
+
+-- ---- the samples stand for every payload and value: the table goes by the command and its key alone
+abbrev SameInTable : Decision → Decision → Type 0
+SameInTable d e = (c : Cell) → (reads d c ≡ reads e c) × (stores d c ≡ stores e c)
+
+pub any-payload : (p q : List ℕ) (a : Action) → SameInTable (execute p a) (execute q a)
+unfolding reads stores
+any-payload p q a c = (refl, refl)
+
+pub any-value : (p : List ℕ) (k : Key) (v w : List ℕ)
+    → SameInTable (execute p (write k v)) (execute p (write k w)) × SameInTable (execute p (program k v)) (execute p (program k w))
+unfolding reads stores
+any-value p k v w = (λ c. (refl, refl), λ c. (refl, refl))

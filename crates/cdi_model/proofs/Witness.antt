@@ -16,7 +16,7 @@ use Rattle.cdi_model.specs.Action.{read, readNv, actionOf}
 use Rattle.cdi_model.specs.Table.{stores}
 use Rattle.cdi_model.specs.Model.{model, allBelow, isValid, decide, decidePayload, decideBlock, gives}
 use Rattle.cdi_model.proofs.Apart.{refused-first, two-reads, two-writes, status-and-write, status-not-apart}
-use Rattle.cdi_model.proofs.Examples.{factoryCells}
+use Rattle.cdi_model.specs.Factory.{factoryCells}
 
 -- a payload's frame with a response buffer
 abbrev block : List ℕ → Step

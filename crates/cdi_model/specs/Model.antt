@@ -108,7 +108,7 @@ gives s (execute payload a) c = actionGives a c
 gives s executePowerUp c = powerUpGives s c
 
 -- ---- results
--- what a cell shows to a Read: of the name its bytes up to and with the first 00, of any other all
+-- what a cell shows to a Read: a name ends with its first 00, any other cell is shown whole
 abbrev pub shownSingle : Single → List ℕ → List ℕ
 shownSingle name v = upToZero v
 shownSingle firmware v = v
@@ -149,8 +149,8 @@ valueRead s (refuse n) = []
 valueRead s (execute payload a) = actionValue s a
 valueRead s executePowerUp = []
 
--- the payload of a response: Read gives C1, what stands behind the command's code (item, index), and the value; Read NV gives C2
--- and the same; any other command C0, 00 and its whole payload
+-- the payload of a response. To a read command: its kind, then the command's payload without its code, which is the item and the index
+-- if there is one, then the value. To any other command: two bytes, and its payload
 unfoldable pub responsePayload : List ℕ → Action → List ℕ → List ℕ
 responsePayload payload (read d) v = 0xC1 ∷ drop 1 payload ++ v
 responsePayload payload (readNv d) v = 0xC2 ∷ drop 1 payload ++ v

@@ -13,8 +13,8 @@ use Rattle.cdi_item.specs.Items.{items, permitted}
 use Rattle.cdi_command.specs.Command as code
 use Rattle.cdi_command.specs.Command.{markOf, carriesValue, takesIndex}
 use Rattle.cdi_model.specs.Cells.{Copy, nv, working, Setting, lineMask, latchMask, txPower, controlSource, messageSelect, interruptMask, Key, setting, input, slot, address, Single, name, firmware, serial, lines, rssi, ladj, events, flags, hardwarePower, hardwareLineMask, hardwareLatchMask, Cell, stored, single, same}
-use Rattle.cdi_model.specs.Table.{Decision, refuse, executePowerUp, reads, stores}
-use Rattle.cdi_model.specs.Model.{Cells, decidePayload, gives, valueRead}
+use Rattle.cdi_model.specs.Table.{Decision, refuse, execute, executePowerUp, reads, stores}
+use Rattle.cdi_model.specs.Model.{Cells, decidePayload, gives, valueRead, responsePayload}
 
 -- ---- tests over lists
 module _ {A : Type 0} where
@@ -94,38 +94,38 @@ sampleDecisions = refuse valueNotAccepted ∷ executePowerUp ∷ map decidePaylo
 -- differ in every cell. With 1, no cell holds what a sample, Set Default, Erase or a power-up gives it: a working copy holds another
 -- value than the non-volatile one, and what the hardware selects is a third. Events and interrupt mask share a bit, and those of the
 -- states 1 and 3 share none.
-abbrev pub settingHeld : (n control : ℕ) → Copy → Setting → ℕ
-settingHeld n control nv s = n
-settingHeld n control working lineMask = suc n
-settingHeld n control working latchMask = suc n
-settingHeld n control working txPower = suc n
-settingHeld n control working controlSource = control
-settingHeld n control working messageSelect = suc n
-settingHeld n control working interruptMask = suc n
+abbrev pub settingIn : (n control : ℕ) → Copy → Setting → ℕ
+settingIn n control nv s = n
+settingIn n control working lineMask = suc n
+settingIn n control working latchMask = suc n
+settingIn n control working txPower = suc n
+settingIn n control working controlSource = control
+settingIn n control working messageSelect = suc n
+settingIn n control working interruptMask = suc n
 
-abbrev pub channelHeld : ℕ → Copy → ℕ
-channelHeld n nv = 3 + n
-channelHeld n working = 4 + n
+abbrev pub channelIn : ℕ → Copy → ℕ
+channelIn n nv = 3 + n
+channelIn n working = 4 + n
 
-abbrev pub singleHeld : ℕ → Single → List ℕ
-singleHeld n name = n ∷ replicate 16 0
-singleHeld n firmware = replicate 3 n
-singleHeld n serial = replicate 4 n
-singleHeld n lines = replicate 2 n
-singleHeld n rssi = replicate 2 n
-singleHeld n ladj = n ∷ []
-singleHeld n events = suc n ∷ []
-singleHeld n flags = n ∷ []
-singleHeld n hardwarePower = (0x10 + n) ∷ []
-singleHeld n hardwareLineMask = (0x10 + n) ∷ []
-singleHeld n hardwareLatchMask = (0x10 + n) ∷ []
+abbrev pub singleIn : ℕ → Single → List ℕ
+singleIn n name = n ∷ replicate 16 0
+singleIn n firmware = replicate 3 n
+singleIn n serial = replicate 4 n
+singleIn n lines = replicate 2 n
+singleIn n rssi = replicate 2 n
+singleIn n ladj = n ∷ []
+singleIn n events = suc n ∷ []
+singleIn n flags = n ∷ []
+singleIn n hardwarePower = (0x10 + n) ∷ []
+singleIn n hardwareLineMask = (0x10 + n) ∷ []
+singleIn n hardwareLatchMask = (0x10 + n) ∷ []
 
 unfoldable pub stateOf : (n control : ℕ) → Cells
-stateOf n control (stored copy (setting s)) = settingHeld n control copy s ∷ []
-stateOf n control (stored copy (input i)) = channelHeld n copy ∷ n ∷ 0 ∷ 0 ∷ i ∷ []
+stateOf n control (stored copy (setting s)) = settingIn n control copy s ∷ []
+stateOf n control (stored copy (input i)) = channelIn n copy ∷ n ∷ 0 ∷ 0 ∷ i ∷ []
 stateOf n control (stored copy (slot i)) = n ∷ n ∷ n ∷ n ∷ i ∷ []
 stateOf n control (stored copy address) = replicate 4 n
-stateOf n control (single x) = singleHeld n x
+stateOf n control (single x) = singleIn n x
 
 abbrev pub base : ℕ → Cells
 base control = stateOf 1 control
@@ -149,10 +149,16 @@ abbrev pub changed : Cells → Cell → Cells
 changed s c = λ d. cond (same d c) (other d) (s d)
 
 -- ---- the test
--- taking c from the other state changes the value that is read, or what is given to one of the cells
+-- what a decision shows in a response: its payload
+abbrev pub responseOf : Cells → Decision → List ℕ
+responseOf s (refuse n) = []
+responseOf s (execute payload a) = responsePayload payload a (valueRead s (execute payload a))
+responseOf s executePowerUp = []
+
+-- taking c from the other state changes the response, or what is given to one of the cells
 abbrev pub differs : Cells → Decision → List Cell → Cell → Bool
 differs s d given c =
-    not (sameBytes (valueRead (changed s c) d) (valueRead s d))
+    not (sameBytes (responseOf (changed s c) d) (responseOf s d))
     || any (differIn (gives (changed s c) d) (gives s d)) given
 
 -- the cells that the decision stores in

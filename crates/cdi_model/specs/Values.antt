@@ -27,7 +27,7 @@ acceptedSetting controlSource b = ltb b 0x20
 acceptedSetting messageSelect b = leb b 6
 acceptedSetting interruptMask b = true
 
--- channel 04 to 07, FE or FF; 1 to 16 readings; reference 0 or 1; any offset
+-- the first byte is the channel, the second the count of readings, the third the reference; the two bytes of the offset are free
 abbrev pub acceptedInput : List ℕ → Bool
 acceptedInput v =
     ((leb 0x04 (getD v 0 0) && leb (getD v 0 0) 0x07) || (eqb (getD v 0 0) 0xFE || eqb (getD v 0 0) 0xFF)) &&
@@ -44,7 +44,7 @@ accepted (input n) v = acceptedInput v
 accepted (slot i) v = acceptedSlot v
 accepted address v = true
 
--- mode (bits 0 to 2) at most 4; bits 3, 6 and 7 zero
+-- of the live flags the lowest three bits are the mode; three other bits are always clear
 abbrev pub acceptedFlags : ℕ → Bool
 acceptedFlags flags = leb (bitAnd flags 0x07) 4 && eqb (bitAnd flags 0xC8) 0
 
@@ -73,7 +73,7 @@ abbrev pub emptySlot : List ℕ
 emptySlot = 0x00 ∷ 0x00 ∷ 0x00 ∷ 0x00 ∷ 0x00 ∷ []
 
 -- ---- what is read
--- of a name, its bytes up to and with the first 00
+-- a name ends with its first 00
 unfoldable pub upToZero : List ℕ → List ℕ
 upToZero [] = []
 upToZero (b ∷ bs) = cond (eqb b 0) (b ∷ []) (b ∷ upToZero bs)

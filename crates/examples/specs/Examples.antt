@@ -20,9 +20,14 @@ pub data Expected : Type 0 where
   response : List ℕ → Expected
   refusal : ℕ → Expected
 
+-- some examples give the percent too
+pub data Percent : Type 0 where
+  percent : ℕ → Percent
+  untold : Percent
+
 pub data Example : Type 0 where
   onBlock : (before : List (List ℕ)) (block : List ℕ) → Expected → Example
-  onReadings : (readings : List ℕ) (offset : ℤ) (readout percent : ℕ) → Example
+  onReadings : (readings : List ℕ) (offset : ℤ) (readout : ℕ) → Percent → Example
 
 -- a response buffer, filled so that what is written and what is left can be told
 abbrev pub buffer : List ℕ
@@ -35,12 +40,15 @@ asResult (refusal n) = responded n 0 buffer
 abbrev pub asStep : List ℕ → Step
 asStep block = command block buffer
 
+abbrev pub PercentHolds : ℕ → Percent → Type 0
+PercentHolds readout (percent p) = percentOf readout ≡ p
+PercentHolds readout untold = Unit {0}
+
 -- an example holds where the module's result is the expected one, in every byte of the response buffer
 abbrev pub Holds : Example → Type 0
 Holds (onBlock before block expected) =
     resultOf (run model machine factoryState (map asStep before)) (asStep block) ≡ asResult expected
-Holds (onReadings readings offset readout percent) =
-    (readoutOf readings offset ≡ result none readout) × (percentOf readout ≡ percent)
+Holds (onReadings readings offset readout p) = (readoutOf readings offset ≡ result none readout) × PercentHolds readout p
 
 abbrev pub AllHold : List Example → Type 0
 AllHold [] = Unit {0}
@@ -64,6 +72,6 @@ examples =
     onBlock [] (0x80 ∷ 0x55 ∷ 0x88 ∷ 0x04 ∷ 0x18 ∷ 0x28 ∷ 0x01 ∷ 0x02 ∷ 0x03 ∷ 0x04 ∷ 0x05 ∷ []) (refusal wrongIndex) ∷
     onBlock [] [] (refusal endsEarly) ∷
     onBlock [] (0x80 ∷ []) (refusal endsEarly) ∷
-    onReadings (3563 ∷ 3564 ∷ []) (pos 0) 57016 87 ∷
-    onReadings (4095 ∷ []) (pos 15) 65535 100 ∷
+    onReadings (3563 ∷ 3564 ∷ []) (pos 0) 57016 (percent 87) ∷
+    onReadings (4095 ∷ []) (pos 15) 65535 untold ∷
     []
