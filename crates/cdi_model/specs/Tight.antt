@@ -2,11 +2,11 @@
 -- theorem does not ask it: a table that named more cells than a step touches would satisfy the theorem and empty its exchange, since
 -- fewer neighbours, or none, would be apart. So each cell that the table names as read has to make a difference, each that it names as
 -- stored in has to change, and no other cell may, for every command on every item, at every index, and for a power-up.
-use Prim.Native.Nat.{ℕ, zero, suc, _+_}
+use Prim.Native.Nat.{ℕ, suc, _+_}
 use mathlib.Core.List.{List, [], _∷_, _++_, map, flatMap}
 use mathlib.Core.Bool.{Bool, true, false, cond, not, _&&_, _||_, Bool·beq}
-use lib.Dec.{eqb}
 use lib.ListN.{take, replicate}
+use Rattle.logic.specs.Lists.{below, sameBytes}
 use Rattle.refusal.specs.Refusal.{valueNotAccepted}
 use Rattle.cdi_item.specs.declared.Item.{Item}
 use Rattle.cdi_item.specs.Items.{items, permitted}
@@ -29,17 +29,6 @@ module _ {A : Type 0} where
   abbrev pub those : (A → Bool) → List A → List A
   those ok [] = []
   those ok (x ∷ xs) = cond (ok x) (x ∷ those ok xs) (those ok xs)
-
--- the numbers below n, before others
-abbrev pub below : ℕ → List ℕ → List ℕ
-below zero l = l
-below (suc n) l = below n (n ∷ l)
-
-abbrev pub sameBytes : List ℕ → List ℕ → Bool
-sameBytes [] [] = true
-sameBytes [] (c ∷ w) = false
-sameBytes (b ∷ v) [] = false
-sameBytes (b ∷ v) (c ∷ w) = eqb b c && sameBytes v w
 
 -- ---- the cells
 -- the keys that have both copies
