@@ -6,17 +6,14 @@ ghost use Prim.Native.Nat.{_≤_};
 ghost use lib.ListN.{length, take};
 ghost use Rattle.logic.specs.Written.{written};
 ghost use Rattle.cdi_command.specs.Payload.{fits};
-ghost use Rattle.cdi_state.specs.State.{inputBytes, slotBytes};
 ghost use Rattle.cdi_module.specs.Value.{nameShown, settingByte, statusShown, plainValue, rowValue};
 use cdi_command::Index;
 use cdi_item::Item;
 use cdi_item::code;
-use cdi_state::AnalogInput;
 use cdi_state::HardwareSelection;
 use cdi_state::ModuleState;
 use cdi_state::NAME_LENGTH;
 use cdi_state::Settings;
-use cdi_state::Slot;
 
 // Status bit 7: an event is in the interrupt mask.
 const EVENT_FLAG: u8 = 0x80;
@@ -164,29 +161,10 @@ pub(crate) fn put_plain(state: ModuleState, settings: Settings, item: u8, out: &
     put_byte(setting_byte(settings, item), out)
 }
 
-// Writes a row of item 18.
-fn put_slot(slot: Slot, out: &mut [u8]) -> usize
+fn put_bytes(row: [u8; 5], out: &mut [u8]) -> usize
     requires { ⌜ 5 ≤ length (now out) ⌝ }
-    ensures { λ r. ⌜ (r ≡ 5) × ((r ≡ length (slotBytes slot)) × (now (out .exit) ≡ written (now (out .entry)) (slotBytes slot))) ⌝ }
+    ensures { λ r. ⌜ (r ≡ 5) × ((r ≡ length row) × (now (out .exit) ≡ written (now (out .entry)) row)) ⌝ }
 {
-    let address = slot.address;
-    let row = [address[0], address[1], address[2], address[3], slot.mask];
-    put(&row, out)
-}
-
-// Writes a row of item 16.
-fn put_input(input: AnalogInput, out: &mut [u8]) -> usize
-    requires { ⌜ 5 ≤ length (now out) ⌝ }
-    ensures { λ r. ⌜ (r ≡ 5) × ((r ≡ length (inputBytes input)) × (now (out .exit) ≡ written (now (out .entry)) (inputBytes input))) ⌝ }
-{
-    let offset = input.offset;
-    let row = [
-        input.channel,
-        input.readings,
-        input.reference,
-        offset[0],
-        offset[1],
-    ];
     put(&row, out)
 }
 
@@ -204,11 +182,13 @@ pub(crate) fn put_row(
     match index {
         Index::Slot(at) => {
             let slot = state.slots[at.0 as usize];
-            put_slot(slot, out)
+            let row = slot.bytes();
+            put_bytes(row, out)
         }
         Index::Input(number) => {
             let input = settings.analog_inputs[(number.0 - 1) as usize];
-            put_input(input, out)
+            let row = input.bytes();
+            put_bytes(row, out)
         }
     }
 }

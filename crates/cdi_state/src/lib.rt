@@ -6,7 +6,7 @@ ghost use mathlib.Core.List.{[], _∷_};
 ghost use lib.ListN.{length, getD};
 ghost use Rattle.logic.specs.Signed.{signed};
 ghost use Rattle.cdi_item.specs.Values.{acceptedValue};
-ghost use Rattle.cdi_state.specs.State.{inputOffset, noInput, factoryState, ArrayLengths, FieldLengths};
+ghost use Rattle.cdi_state.specs.State.{inputBytes, slotBytes, inputOffset, noInput, factoryState, ArrayLengths, FieldLengths};
 ghost use Rattle.cdi_state.specs.Valid.{hasZero, validInput, validSettings, validSlot, validSlots, validFlags, isValid};
 use cdi_item::Value;
 use cdi_item::code;
@@ -70,6 +70,14 @@ impl Slot {
         address: [0; 4],
         mask: 0,
     };
+
+    // The slot as item 18 has it.
+    pub fn bytes(self) -> [u8; 5]
+        ensures { λ r. ⌜ r ≡ slotBytes self ⌝ }
+    {
+        let address = self.address;
+        [address[0], address[1], address[2], address[3], self.mask]
+    }
 }
 
 impl AnalogInput {
@@ -79,6 +87,20 @@ impl AnalogInput {
         reference: 0,
         offset: [0; 2],
     };
+
+    // The input as item 16 has it.
+    pub fn bytes(self) -> [u8; 5]
+        ensures { λ r. ⌜ r ≡ inputBytes self ⌝ }
+    {
+        let offset = self.offset;
+        [
+            self.channel,
+            self.readings,
+            self.reference,
+            offset[0],
+            offset[1],
+        ]
+    }
 
     // The offset as the signed number that `analog::readout` takes.
     pub fn signed_offset(self) -> i16

@@ -23,8 +23,11 @@ element-copy-out-slot c =
     let z = i .before .before .before in
     slot-in-range (z .args .item) (i .index .given .0 .0) (rw (i .index .given .1) at (z .pre .0)) .1
 
-put-slot-requires : tie.Need-put-slot-requires
-put-slot-requires c κs = search needs
+bytes-requires : tie.Need-bytes-requires
+bytes-requires c κs = search needs
+
+put-bytes-requires : tie.Need-put-bytes-requires
+put-bytes-requires c κs = search needs
 
 enum-known-index-2 : tie.Need-enum-known-index-2
 enum-known-index-2 c = search needs
@@ -49,8 +52,11 @@ mul-input c = search needs
 element-copy-out-input : tie.Need-element-copy-out-input
 element-copy-out-input c = omega (arith, in-range (c .before .before))
 
-put-input-requires : tie.Need-put-input-requires
-put-input-requires c κs = search needs
+bytes-requires-2 : tie.Need-bytes-requires-2
+bytes-requires-2 c κs = search needs
+
+put-bytes-requires-2 : tie.Need-put-bytes-requires-2
+put-bytes-requires-2 c κs = search needs
 
 same-length : tie.Need-same-length
 same-length c = search needs
@@ -58,8 +64,9 @@ same-length c = search needs
 returns : tie.Need-returns
 returns c =
     let k = c .before .before in
-    let i = k .before .before .before .before .before in
-    rw (i .index .given .1) (k .put-slot .ensures)
+    let b = k .before .before in
+    let i = b .before .before .before .before in
+    rw (i .index .given .1) (rw (b .bytes .ensures) at (k .put-bytes .ensures))
 
 same-length-2 : tie.Need-same-length-2
 same-length-2 c = search needs
@@ -67,9 +74,10 @@ same-length-2 c = search needs
 returns-2 : tie.Need-returns-2
 returns-2 c =
     let k = c .before .before in
-    let i = k .before .before .before .before .before in
+    let b = k .before .before in
+    let i = b .before .before .before .before in
     let n = i .index2 .given .0 .0 .0 in
-    rw (i .index2 .given .1, input-at (i .before .before .before .args .t2) n (in-range i .0)) (k .put-input .ensures)
+    rw (i .index2 .given .1, input-at (i .before .before .before .args .t2) n (in-range i .0)) (rw (b .bytes2 .ensures) at (k .put-bytes2 .ensures))
 
 pub put-row-spec : {M : Type 1} → statement M
 put-row-spec =
@@ -79,13 +87,15 @@ put-row-spec =
     cast-slot
     mul-slot
     element-copy-out-slot
-    put-slot-requires
+    bytes-requires
+    put-bytes-requires
     enum-known-index-2
     sub-input
     cast-input
     mul-input
     element-copy-out-input
-    put-input-requires
+    bytes-requires-2
+    put-bytes-requires-2
     same-length
     returns
     same-length-2

@@ -1,0 +1,27 @@
+-- The address's four bytes are the whole of it, so the five are the slot's.
+-- Assumes nothing.
+use mathlib.Core.List.{[], _∷_}
+use Rattle.cdi_state.proofs.Arrays.{four-long}
+use borrow.Author.Needs.{needs}
+use Rattle.cdi_state.proofs.Slot.bytes.Statement.{statement}
+use Rattle.cdi_state.proofs.Slot.bytes.Tie as tie
+
+array-read-t5 : tie.Need-array-read-t5
+array-read-t5 c = search needs
+
+array-read-t8 : tie.Need-array-read-t8
+array-read-t8 c = search needs
+
+array-read-t11 : tie.Need-array-read-t11
+array-read-t11 c = search needs
+
+array-read-t14 : tie.Need-array-read-t14
+array-read-t14 c = search needs
+
+returns : tie.Need-returns
+returns c =
+    let s = c .before .args .self in
+    four-long (s .address) (s .mask ∷ []) (search needs)
+
+pub bytes-spec : {M : Type 1} → statement M
+bytes-spec = tie.close (tie.spec array-read-t5 array-read-t8 array-read-t11 array-read-t14 returns)
