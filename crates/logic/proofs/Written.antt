@@ -36,6 +36,11 @@ pub written-length : (s p : List ℕ) → length p ≤ length s → length (writ
 unfolding written
 written-length s p h = omega (arith, length-append p (drop (length p) s), length-drop (length p) s)
 
+-- what is as long as the buffer leaves nothing of it
+pub written-all : (s p : List ℕ) → length p ≡ length s → written s p ≡ p
+unfolding written
+written-all s p h = rw (nothing-left s (length p) (omega (arith, h))) (append-nil p)
+
 -- one store more: the next place may be written in any form
 pub sets-one : (s : List ℕ) (i a j : ℕ) (rest : List ℕ) → i + 1 ≡ j → sets s i (a ∷ rest) ≡ sets (set s i a) j rest
 sets-one s i a j rest e = ap (λ (k : ℕ). sets (set s i a) k rest) (sym (add-one i) ∙ e)

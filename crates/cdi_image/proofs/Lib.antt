@@ -1,0 +1,12 @@
+pub mod Cells
+pub mod Contents
+pub mod Cut
+pub mod Fit
+pub mod Kept
+pub mod Laws
+pub mod Parts
+pub mod Places
+pub mod Puts
+pub mod ReadBack
+pub mod Rows
+pub mod Tests

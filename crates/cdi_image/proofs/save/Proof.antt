@@ -1,0 +1,66 @@
+-- The refusals are the definition's, in the same order, and an image that is accepted fills the buffer.
+-- Assumes nothing.
+use Prim.Native.Nat.{ℕ}
+use mathlib.Core.Path.{refl, sym, ap, _∙_}
+use native.Mathlib.Omega.{arith}
+use borrow.Author.Needs.{needs}
+use borrow.Author.Tests.{eq-eqb, ne-eqb, not-true, not-false}
+use lib.ListN.{length}
+use Rattle.refusal.specs.Refusal.{none, outcome}
+use Rattle.cdi_image.specs.Image.{imageSize, imageOf, saved}
+use Rattle.logic.proofs.Written.{written-all}
+use Rattle.cdi_image.proofs.save.Statement.{statement}
+use Rattle.cdi_image.proofs.save.Tie as tie
+
+save-refused-requires : tie.Need-save-refused-requires
+save-refused-requires c κs = search needs
+
+returns : tie.Need-returns
+unfolding saved
+returns c =
+    let image = c .before .before .before .args .image .now in
+    simp (ne-eqb (length image) imageSize (c .before .if1 .taken)) (c .save-refused .ensures, refl)
+
+is-valid-requires : tie.Need-is-valid-requires
+is-valid-requires c κs = search needs
+
+save-refused-requires-2 : tie.Need-save-refused-requires-2
+save-refused-requires-2 c κs = search needs
+
+returns-2 : tie.Need-returns-2
+unfolding saved
+returns-2 c =
+    let v = c .before .before in
+    let image = v .before .before .before .args .image .now in
+    simp (eq-eqb (length image) imageSize (v .before .if1 .left), sym (v .is-valid .ensures) ∙ not-true (v .is-valid .result) (c .before .if2 .taken))
+    (c .save-refused2 .ensures, refl)
+
+write-image-requires : tie.Need-write-image-requires
+write-image-requires c κs = search needs
+
+same-length : tie.Need-same-length
+same-length c = search needs
+
+returns-3 : tie.Need-returns-3
+unfolding saved
+returns-3 c =
+    let w = c .before .before in
+    let v = w .before .before .before in
+    let a = v .before .before .before .args in
+    let image = a .image .now in
+    let written = w .write-image .ensures in
+    simp (eq-eqb (length image) imageSize (v .before .if1 .left), sym (v .is-valid .ensures) ∙ not-false (v .is-valid .result) (w .before .before .if2 .left))
+    (ap (λ (n : ℕ). outcome none n) (sym (written .0)), written .1 ∙ sym (written-all image (imageOf (a .state)) (omega (arith, written .0))))
+
+pub save-spec : {M : Type 1} → statement M
+save-spec =
+    tie.close
+    (tie.spec
+    save-refused-requires
+    returns
+    is-valid-requires
+    save-refused-requires-2
+    returns-2
+    write-image-requires
+    same-length
+    returns-3)

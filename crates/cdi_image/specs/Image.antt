@@ -1,0 +1,114 @@
+-- Document 01, "Command writer and stored image": the image of a state, what Save writes and what Load gives.
+use Prim.Native.Nat.{ℕ, zero, suc}
+use mathlib.Core.List.{List, [], _∷_, _++_, map, flatMap}
+use mathlib.Core.Bool.{Bool, cond, not, _&&_}
+use lib.Dec.{eqb}
+use lib.ListN.{length, getD, take, drop}
+use Rattle.logic.specs.Lists.{below, sameBytes}
+use Rattle.refusal.specs.Refusal.{Result, accepted, refused, none, invalid, imageLength, imageMark, imageVersion}
+use Rattle.cdi_state.specs.declared.AnalogInput.{AnalogInput}
+use Rattle.cdi_state.specs.declared.Slot.{Slot}
+use Rattle.cdi_state.specs.declared.Settings.{Settings}
+use Rattle.cdi_state.specs.declared.ModuleState.{ModuleState}
+use Rattle.cdi_state.specs.Valid.{hasZero, validSettings, validSlots, isValid}
+use Rattle.cdi_store.specs.Store.{stateAtPowerUp}
+use Rattle.cdi_model.specs.Cells.{nv, lineMask, latchMask, txPower, controlSource, messageSelect, interruptMask, setting, input, slot, address, name, firmware, serial, Cell, stored, single}
+use Rattle.cdi_module.specs.Machine.{cells}
+use Rattle.cdi_image.specs.declared.Loaded.{Loaded}
+
+-- ---- the image
+-- SWB
+abbrev pub mark : List ℕ
+mark = 0x53 ∷ 0x57 ∷ 0x42 ∷ []
+
+-- the high byte first
+abbrev pub version : List ℕ
+version = 0x00 ∷ 0x01 ∷ []
+
+-- 01's N cells and the slots, in the order of their items
+abbrev pub imageCells : List Cell
+imageCells =
+    single name ∷ single firmware ∷ single serial ∷ stored nv address ∷ stored nv (setting lineMask) ∷ stored nv (setting latchMask) ∷
+    stored nv (setting txPower) ∷ stored nv (setting controlSource) ∷ stored nv (setting messageSelect) ∷ stored nv (input 1) ∷
+    stored nv (input 2) ∷ map (λ i. stored nv (slot i)) (below 40 []) ++ stored nv (setting interruptMask) ∷ []
+
+unfoldable pub imageOf : ModuleState → List ℕ
+imageOf s = mark ++ version ++ flatMap (cells s) imageCells
+
+abbrev pub imageSize : ℕ
+imageSize = 249
+
+-- ---- Save: refusals 17, 2
+unfoldable pub saved : ModuleState → ℕ → Result (List ℕ)
+saved s room =
+    cond (not (eqb room imageSize)) (refused imageLength)
+    (cond (not (isValid s)) (refused invalid) (accepted (imageOf s)))
+
+-- ---- what the cells of an image are in a state
+abbrev pub part : (from count : ℕ) → List ℕ → List ℕ
+part from count image = take count (drop from image)
+
+-- a row of five bytes as a slot, and as an input
+abbrev pub slotIn : List ℕ → Slot
+slotIn row = record { address = take 4 row; mask = getD row 4 0 }
+
+abbrev pub inputIn : List ℕ → AnalogInput
+inputIn row = record { channel = getD row 0 0; readings = getD row 1 0; reference = getD row 2 0; offset = drop 3 row }
+
+-- so many slots, one row behind the other
+unfoldable pub slotsIn : ℕ → List ℕ → List Slot
+slotsIn zero rows = []
+slotsIn (suc n) rows = slotIn (take 5 rows) ∷ slotsIn n (drop 5 rows)
+
+abbrev pub imageName : List ℕ → List ℕ
+imageName image = part 5 17 image
+
+abbrev pub imageSettings : List ℕ → Settings
+imageSettings image = record {
+  «line_mask» = getD image 33 0;
+  «latch_mask» = getD image 34 0;
+  «tx_power» = getD image 35 0;
+  «control_source» = getD image 36 0;
+  «message_select» = getD image 37 0;
+  «analog_inputs» = inputIn (part 38 5 image) ∷ inputIn (part 43 5 image) ∷ [];
+  «interrupt_mask» = getD image 248 0;
+}
+
+abbrev pub imageSlots : List ℕ → List Slot
+imageSlots image = slotsIn 40 (part 48 200 image)
+
+-- a state with the cells of an image: all else stays
+abbrev pub withImage : ModuleState → List ℕ → ModuleState
+withImage s image = record {
+  name = imageName image;
+  firmware = part 22 3 image;
+  serial = part 25 4 image;
+  address = part 29 4 image;
+  nv = imageSettings image;
+  working = s .working;
+  slots = imageSlots image;
+  lines = s .lines;
+  rssi = s .rssi;
+  ladj = s .ladj;
+  events = s .events;
+  flags = s .flags;
+  hardware = s .hardware;
+}
+
+-- ---- Load: refusals 17, 18, 19, 2
+-- the contents alone are asked about: the name has a 00, and items 13 to 16 and the slots hold accepted values
+abbrev pub validContents : List ℕ → Bool
+validContents image = (hasZero (imageName image) && validSettings (imageSettings image)) && validSlots (imageSlots image)
+
+-- the cells are replaced, and then the module powers up; the state before it may be invalid
+unfoldable pub loaded : ModuleState → List ℕ → Result ModuleState
+loaded s image =
+    cond (not (eqb (length image) imageSize)) (refused imageLength)
+    (cond (not (sameBytes (part 0 3 image) mark)) (refused imageMark)
+    (cond (not (sameBytes (part 3 2 image) version)) (refused imageVersion)
+    (cond (not (validContents image)) (refused invalid) (accepted (stateAtPowerUp (withImage s image))))))
+
+-- what a Load answers: a refusal leaves the state
+abbrev pub loadedAs : ModuleState → Result ModuleState → Loaded
+loadedAs s (accepted t) = record { state = t; refusal = none }
+loadedAs s (refused n) = record { state = s; refusal = n }

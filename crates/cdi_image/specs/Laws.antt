@@ -1,0 +1,104 @@
+-- Document 01, "Command writer and stored image": what Save and Load are to each other, and what a Load leaves of a state. With these
+-- nobody has to believe `withImage`: an image that is loaded is the image of the state, and no other cell is touched but by power-up.
+use Prim.Native.Nat.{ℕ}
+use mathlib.Core.Path.{_≡_}
+use mathlib.Core.List.{List, [], _∷_, _++_}
+use mathlib.Core.Bool.{Bool, true, false, cond, Bool·beq}
+use lib.ListN.{replicate}
+use Rattle.refusal.specs.Refusal.{accepted}
+use Rattle.cdi_state.specs.declared.Settings.{Settings}
+use Rattle.cdi_state.specs.declared.ModuleState.{ModuleState}
+use Rattle.cdi_state.specs.State.{emptySlot, factoryState, ArrayLengths, FieldLengths}
+use Rattle.cdi_state.specs.Valid.{isValid}
+use Rattle.cdi_model.specs.Cells.{nv, working, Single, name, firmware, serial, lines, rssi, ladj, events, flags, hardwarePower, hardwareLineMask, hardwareLatchMask, Cell, stored, single}
+use Rattle.cdi_model.specs.Table.{powerUpStores}
+use Rattle.cdi_model.specs.Model.{powerUpGives}
+use Rattle.cdi_model.specs.Tight.{all, everyCell, isIn, allApart}
+use Rattle.cdi_module.specs.Machine.{cells}
+use Rattle.cdi_image.specs.Image.{imageCells, imageOf, imageSize, saved, loaded}
+
+-- whether a cell is 01's N or a slot
+abbrev pub singleInImage : Single → Bool
+singleInImage name = true
+singleInImage firmware = true
+singleInImage serial = true
+singleInImage lines = false
+singleInImage rssi = false
+singleInImage ladj = false
+singleInImage events = false
+singleInImage flags = false
+singleInImage hardwarePower = false
+singleInImage hardwareLineMask = false
+singleInImage hardwareLatchMask = false
+
+abbrev pub inImage : Cell → Bool
+inImage (stored nv k) = true
+inImage (stored working k) = false
+inImage (single x) = singleInImage x
+
+-- the image's list of cells has all of those, each once, and no other
+pub record KeptCells : Type 0 where
+  pub all-kept : all (λ c. Bool·beq (inImage c) (isIn c imageCells)) everyCell ≡ true
+  pub no-others : all (λ c. isIn c everyCell) imageCells ≡ true
+  pub each-once : allApart imageCells ≡ true
+
+-- a state in which every cell of the image holds something else, and what is not in the image is 00
+abbrev sampleSettings : Settings
+sampleSettings = record {
+  «line_mask» = 0x51;
+  «latch_mask» = 0x52;
+  «tx_power» = 0x53;
+  «control_source» = 0x54;
+  «message_select» = 0x55;
+  «analog_inputs» =
+      record { channel = 0x61; readings = 0x62; reference = 0x63; offset = 0x64 ∷ 0x65 ∷ [] } ∷
+      record { channel = 0x71; readings = 0x72; reference = 0x73; offset = 0x74 ∷ 0x75 ∷ [] } ∷ [];
+  «interrupt_mask» = 0x56;
+}
+
+abbrev sampleState : ModuleState
+sampleState = record {
+  name = replicate 16 0x11 ++ 0x12 ∷ [];
+  firmware = 0x21 ∷ 0x22 ∷ 0x23 ∷ [];
+  serial = 0x31 ∷ 0x32 ∷ 0x33 ∷ 0x34 ∷ [];
+  address = 0x41 ∷ 0x42 ∷ 0x43 ∷ 0x44 ∷ [];
+  nv = sampleSettings;
+  working = factoryState .working;
+  slots =
+      record { address = 0x81 ∷ 0x82 ∷ 0x83 ∷ 0x84 ∷ []; mask = 0x85 } ∷ replicate 38 emptySlot ++
+      record { address = 0x91 ∷ 0x92 ∷ 0x93 ∷ 0x94 ∷ []; mask = 0x95 } ∷ [];
+  lines = replicate 2 0;
+  rssi = replicate 2 0;
+  ladj = 0;
+  events = 0;
+  flags = 0;
+  hardware = record { power = 0; «line_mask» = 0; «latch_mask» = 0 };
+}
+
+-- its image: the mark and the version; items 01, 02, 03 and 10; 11 to 15; both rows of 16; the slots; 25
+abbrev pub SampleImage : Type 0
+SampleImage =
+    imageOf sampleState ≡
+    0x53 ∷ 0x57 ∷ 0x42 ∷ 0x00 ∷ 0x01 ∷
+    replicate 16 0x11 ++ 0x12 ∷ 0x21 ∷ 0x22 ∷ 0x23 ∷ 0x31 ∷ 0x32 ∷ 0x33 ∷ 0x34 ∷ 0x41 ∷ 0x42 ∷ 0x43 ∷ 0x44 ∷
+    0x51 ∷ 0x52 ∷ 0x53 ∷ 0x54 ∷ 0x55 ∷ 0x61 ∷ 0x62 ∷ 0x63 ∷ 0x64 ∷ 0x65 ∷ 0x71 ∷ 0x72 ∷ 0x73 ∷ 0x74 ∷ 0x75 ∷
+    0x81 ∷ 0x82 ∷ 0x83 ∷ 0x84 ∷ 0x85 ∷ replicate 190 0x00 ++ 0x91 ∷ 0x92 ∷ 0x93 ∷ 0x94 ∷ 0x95 ∷ 0x56 ∷ []
+
+-- what Save writes Load takes, on any state, and gives back the same cells. The lengths are those that every state of a program has
+pub record Reloaded (s t : ModuleState) (image : List ℕ) : Type 0 where
+  pub state : ModuleState
+  pub taken : loaded t image ≡ accepted state
+  pub same-cells : (c : Cell) → inImage c ≡ true → cells state c ≡ cells s c
+
+abbrev pub SaveThenLoad : Type 0
+SaveThenLoad = (s t : ModuleState) → ArrayLengths s → FieldLengths s → (image : List ℕ) → saved s imageSize ≡ accepted image → Reloaded s t image
+
+-- what Load gives: a valid state, of which Save writes the same image; a cell that no image has is as it was, or as the reference
+-- model's power-up stores it from the cells of the image
+pub record AfterLoad (s : ModuleState) (image : List ℕ) (t : ModuleState) : Type 0 where
+  pub valid : isValid t ≡ true
+  pub saved-again : saved t imageSize ≡ accepted image
+  pub other-cells : (c : Cell) → inImage c ≡ false → cells t c ≡ cond (powerUpStores c) (powerUpGives (cells t) c) (cells s c)
+
+abbrev pub LoadThenSave : Type 0
+LoadThenSave = (s : ModuleState) (image : List ℕ) (t : ModuleState) → loaded s image ≡ accepted t → AfterLoad s image t
