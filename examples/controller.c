@@ -1,0 +1,106 @@
+/*
+ * A small stall controller: it holds one module's state, talks to it in command blocks, computes a
+ * pack's charge from readings, and keeps the module over a loss of power. It prints what it does
+ * and ends with 1 where something is not as expected.
+ *
+ *     ./sdk
+ *     gcc -Itarget/sdk/include examples/controller.c target/sdk/lib/libcdi.a -o target/controller
+ *     target/controller
+ */
+#include <cdi.h>
+
+#include <stdbool.h>
+#include <stdio.h>
+#include <string.h>
+
+static void print_bytes(const char *what, const uint8_t *bytes, size_t count)
+{
+    printf("%-10s", what);
+    for (size_t i = 0; i < count; i++)
+        printf(" %02X", bytes[i]);
+    printf("\n");
+}
+
+/* Encodes a payload behind two wake bytes, executes the block and shows both; false if refused. */
+static bool command(cdi_module_state *state, const uint8_t *payload, size_t size)
+{
+    uint8_t block[CDI_FRAME_BUFFER_MIN];
+    uint8_t response[CDI_RESPONSE_MAX];
+
+    cdi_outcome encoded = cdi_encode_command(payload, size, 2, block, sizeof block);
+    if (encoded.refusal != CDI_REFUSAL_NONE) {
+        printf("%-10s refused %u\n", "encode", encoded.refusal);
+        return false;
+    }
+    print_bytes("block", block, encoded.length);
+
+    cdi_outcome executed = cdi_execute(state, block, encoded.length, response, sizeof response);
+    if (executed.refusal != CDI_REFUSAL_NONE) {
+        printf("%-10s refused %u\n", "execute", executed.refusal);
+        return false;
+    }
+    print_bytes("response", response, executed.length);
+    return true;
+}
+
+/* Stores message select and the second analog input; sets the power until the next power-up. */
+static bool configure(cdi_module_state *state)
+{
+    static const uint8_t message[] = {CDI_COMMAND_PROGRAM, CDI_ITEM_MESSAGE_SELECT, 6};
+    static const uint8_t input[] = {
+        CDI_COMMAND_PROGRAM, CDI_ITEM_ANALOG_INPUT, 2, 0x05, 2, 1, 0x00, 0x00};
+    static const uint8_t power[] = {CDI_COMMAND_WRITE, CDI_ITEM_TX_POWER, 0xEC};
+
+    return command(state, message, sizeof message) && command(state, input, sizeof input)
+        && command(state, power, sizeof power);
+}
+
+/* The charge of the pack behind an analog input, in percent; -1 where the readings are refused. */
+static int charge(const cdi_analog_input *input, const uint16_t *readings)
+{
+    int16_t offset = (int16_t)((input->offset[0] << 8) | input->offset[1]);
+    cdi_readout_result result = cdi_readout(readings, input->readings, offset);
+
+    if (result.refusal != CDI_REFUSAL_NONE) {
+        printf("%-10s refused %u\n", "readout", result.refusal);
+        return -1;
+    }
+    printf("%-10s %u is %u percent\n", "readout", result.readout, cdi_percent(result.readout));
+    return cdi_percent(result.readout);
+}
+
+/* The state saved, lost, and loaded into a new module. */
+static bool survive_power_loss(cdi_module_state *state)
+{
+    uint8_t image[CDI_IMAGE_SIZE];
+    cdi_settings kept = state->nv;
+    cdi_outcome saved = cdi_save(state, image, sizeof image);
+
+    if (saved.refusal != CDI_REFUSAL_NONE)
+        return false;
+    printf("%-10s %zu bytes, mark %.3s\n", "image", saved.length, (const char *)image);
+
+    *state = cdi_factory();
+    if (cdi_load(state, image, sizeof image) != CDI_REFUSAL_NONE)
+        return false;
+    printf("%-10s message select %u, power %d dBm\n", "loaded", state->working.message_select,
+           (int8_t)state->working.tx_power);
+
+    image[3] = 1; /* not a version that is known */
+    printf("%-10s refused %u\n", "load", cdi_load(state, image, sizeof image));
+    return memcmp(&kept, &state->nv, sizeof kept) == 0
+        && memcmp(&kept, &state->working, sizeof kept) == 0;
+}
+
+int main(void)
+{
+    static const uint16_t readings[] = {3563, 3564};
+    static const uint8_t too_strong[] = {CDI_COMMAND_WRITE, CDI_ITEM_TX_POWER, 11};
+    cdi_module_state state = cdi_factory();
+
+    bool done = cdi_power_up(&state) == CDI_REFUSAL_NONE && configure(&state)
+        && !command(&state, too_strong, sizeof too_strong)
+        && charge(&state.working.analog_inputs[1], readings) == 87 && survive_power_loss(&state);
+    printf("%s\n", done ? "done" : "failed");
+    return done ? 0 : 1;
+}
