@@ -2,7 +2,9 @@
 memory between guard bytes, and the comparison that ends with the first difference.
 """
 
+import contextlib
 import ctypes
+import fcntl
 import pathlib
 import random
 import shutil
@@ -25,9 +27,14 @@ def struct(**fields):
     return type("Struct", (ctypes.Structure,), {"_fields_": list(fields.items())})
 
 
+ANALOG_INPUT = struct(channel=BYTE, readings=BYTE, reference=BYTE, offset=2 * BYTE)
+
+
 def run(*words):
-    """Runs a command from the repository's root; what it printed is shown if it fails."""
-    if shutil.which(words[0]) is None:
+    """Runs a command from the repository's root; what it printed is shown if it fails. A command
+    with a slash, as `./sdk`, is a file there."""
+    program = str(ROOT / words[0]) if "/" in words[0] else words[0]
+    if shutil.which(program) is None:
         raise Problem(f"`{words[0]}` is not installed, or not on the path")
     done = subprocess.run(
         words, cwd=ROOT, stdout=subprocess.PIPE, stderr=subprocess.STDOUT, text=True
@@ -36,9 +43,28 @@ def run(*words):
         raise Problem(f"`{' '.join(words)}` failed with {done.returncode}:\n{done.stdout}")
 
 
+@contextlib.contextmanager
+def building():
+    """One build at a time: tests may run side by side."""
+    (ROOT / "target").mkdir(exist_ok=True)
+    with open(ROOT / "target" / "tests.lock", "w", encoding="utf-8") as lock:
+        fcntl.flock(lock, fcntl.LOCK_EX)
+        yield
+
+
+def sdk():
+    """Builds the C SDK, where it is not up to date; its folder."""
+    with building():
+        run("./sdk")
+    return ROOT / "target" / "sdk"
+
+
 def load(path, signatures):
     """A shared library whose functions have the given results and arguments."""
-    library = ctypes.CDLL(path)
+    try:
+        library = ctypes.CDLL(str(path))
+    except OSError as error:
+        raise Problem(f"the library can't be loaded: {error}") from None
     for name, (result, arguments) in signatures.items():
         try:
             function = getattr(library, name)
@@ -52,7 +78,8 @@ def load(path, signatures):
 def build(crate, signatures):
     """Proves and compiles a crate, and loads it as a shared library."""
     archive = f"target/staticlib/lib{crate}.a"
-    run("rt", "staticlib", crate)
+    with building():
+        run("rt", "staticlib", crate)
     with tempfile.TemporaryDirectory() as folder:
         path = str(pathlib.Path(folder) / f"{crate}.so")
         run("gcc", "-shared", "-o", path, "-Wl,--whole-archive", archive, "-Wl,--no-whole-archive")
@@ -65,26 +92,29 @@ GUARD = bytes(range(0xA0, 0xB0))
 
 
 class Memory:
-    """Memory that is handed to the library: some bytes between two guards."""
+    """Memory that is handed to the library: some bytes between two guards. They lie at an even
+    address, as 16-bit numbers have to, or at an odd one, as bytes may."""
 
-    def __init__(self, room):
-        self.bytes = bytearray(len(GUARD) + room + len(GUARD))
+    def __init__(self, room, odd=False):
+        self.front = GUARD + GUARD[:1] if odd else GUARD
+        self.bytes = bytearray(len(self.front) + room + len(GUARD))
         self.held = ctypes.c_char.from_buffer(self.bytes)  # keeps the bytes at their place
-        self.address = ctypes.addressof(self.held) + len(GUARD)
-        assert self.address % 2 == 0, "readings are 16-bit numbers"
+        self.address = ctypes.addressof(self.held) + len(self.front)
+        assert self.address % 2 == odd, "the memory lies at another address"
         self.give(b"")
 
     def give(self, content):
         self.given = content
-        self.bytes[: len(content) + 2 * len(GUARD)] = GUARD + content + GUARD
+        whole = self.front + content + GUARD
+        self.bytes[: len(whole)] = whole
         return self.address
 
     def content(self):
         """The bytes as they are now, or word of a changed guard, which equals no bytes."""
-        end = len(GUARD) + len(self.given)
+        end = len(self.front) + len(self.given)
         whole = bytes(self.bytes[: end + len(GUARD)])
-        if whole.startswith(GUARD) and whole.endswith(GUARD):
-            return whole[len(GUARD) : end]
+        if whole.startswith(self.front) and whole.endswith(GUARD):
+            return whole[len(self.front) : end]
         return "a guard is changed, with the guards it is", whole
 
 

@@ -37,6 +37,30 @@ EDGE_VALUES = {
 }
 
 
+# The order of refusals, where a payload breaks several rules at once.
+PAYLOAD_ORDER = (
+    ("", 3),
+    ("05", 7),  # an unserved command, before its missing item
+    ("83", 7),
+    ("05 17", 7),
+    ("01", 8),  # a missing item
+    ("81 00", 8),  # a long 81
+    ("82 00", 8),
+    ("02 17 00 00", 9),  # an unserved item, before its length
+    ("02 01", 10),  # a command that isn't permitted, before its length
+    ("04 26", 10),
+    ("03 25 00", 10),
+    ("01 16", 8),  # any other wrong length, before index and value
+    ("01 15 00", 8),
+    ("02 15", 8),
+    ("02 15 07 00", 8),
+    ("04 18 28 00 00 00 00", 8),
+    ("04 18 28 00 00 00 00 01", 11),  # the index, before the value
+    ("02 16 00 03 00 02 00 00", 11),
+    ("02 16 01 03 00 02 00 00", 12),
+)
+
+
 def permitted_commands():
     """Every command with an item that permits it, and 81 and 82, which have none."""
     permitted = {(SET_DEFAULT, None), (ERASE_ALL_ADDRESSES, None)}
@@ -61,6 +85,35 @@ def edge_payloads():
             whole = bytes([command, code]) + index + value + b"\x00\x01"
             payloads.update(whole[:size] for size in range(len(whole) + 1))
     return sorted(payloads)
+
+
+def swept_commands():
+    """Every command byte, alone and before items; each of the four commands on items with every
+    item byte and every index byte."""
+    for byte in range(256):
+        yield from (bytes([byte]), bytes([byte, 0x15]), bytes([byte, 0x15, 0x00]))
+        for command in (READ, WRITE, READ_NV, PROGRAM):
+            yield from (bytes([command, byte]), bytes([command, byte, 0x01]))
+            for item, value in ((0x16, "07 02 01 80 00"), (0x18, "01 02 03 04 05")):
+                sets_value = command in (WRITE, PROGRAM)
+                yield bytes([command, item, byte]) + bytes.fromhex(value if sets_value else "")
+
+
+def swept_values():
+    """Write and Program of every value of each one-byte setting, and of rows of five bytes with
+    every byte at each place."""
+    for command, byte in itertools.product((WRITE, PROGRAM), range(256)):
+        for item in reference.ONE_BYTE_SETTINGS:
+            yield bytes([command, item, byte])
+        for at in range(5):
+            for number, row in ((1, "06 03 00 12 34"), (2, "FE 10 01 FF FF")):
+                value = bytearray.fromhex(row)
+                value[at] = byte
+                yield bytes([command, 0x16, number]) + value
+            for index, row in ((0, "00 00 00 00 00"), (39, "00 01 00 00 07")):
+                value = bytearray.fromhex(row)
+                value[at] = byte
+                yield bytes([command, 0x18, index]) + value
 
 
 def random_payload(rng):

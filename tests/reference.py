@@ -27,6 +27,9 @@ COMMAND_BUFFER_SHORT = 13
 WAKE_COUNT_HIGH = 14
 READING_COUNT_WRONG = 15
 READING_HIGH = 16
+IMAGE_LENGTH_WRONG = 17
+MARK_WRONG = 18
+VERSION_WRONG = 19
 
 # ---- 01, "Frame" -----------------------------------------------------------------------------
 
@@ -355,11 +358,16 @@ def erase_all_addresses(state):
     return state._replace(slots=SLOTS * (EMPTY_SLOT,))
 
 
+def powered_up(state):
+    """The state after a power-up: settings copied, RSSI, flags and events at their start."""
+    return state._replace(working=state.nv, rssi=RSSI_AT_START, flags=0x00, events=0x00)
+
+
 def power_up(state):
     """State afterwards and refusal of a power-up."""
     if not is_valid(state):
         return state, INVALID
-    return state._replace(working=state.nv, rssi=RSSI_AT_START, flags=0x00, events=0x00), ACCEPTED
+    return powered_up(state), ACCEPTED
 
 
 # ---- 01, "Frame" (payloads) and "Numbers that a refusal carries" (their order) ---------------
@@ -469,7 +477,7 @@ def percent(readout):
     return below if nearer_to_the_whole_below else below + 1
 
 
-# ---- 01, "Command writer and stored image" ---------------------------------------------------
+# ---- 01, "Command writer and stored image" (the writer) --------------------------------------
 
 COMMAND_BUFFER = 27  # the least length of the writer's buffer
 
@@ -490,6 +498,86 @@ def encode_command(payload, wake, frame):
     prefix = [FRAME_START] + wake * [WAKE] + [WAKES_END, LENGTH_BASE + len(payload)]
     written = bytes(prefix) + payload
     return ACCEPTED, len(written), written + frame[len(written) :]
+
+
+# ---- 01, "Command writer and stored image" (the image) ---------------------------------------
+
+IMAGE_LENGTH = 249
+IMAGE_MARK = b"SWB"
+IMAGE_VERSION = b"\x00\x01"  # 0001, high byte first
+IMAGE_HEAD = len(IMAGE_MARK) + len(IMAGE_VERSION)
+
+
+def image_of(state):
+    """Mark, version, then the nonvolatile cells in item order."""
+    nv = state.nv
+    cells = (
+        state.name,
+        state.firmware,
+        state.serial,
+        state.address,
+        bytes([nv.line_mask, nv.latch_mask, nv.tx_power, nv.control_source, nv.message_select]),
+        b"".join(nv.analog_inputs),
+        b"".join(state.slots),
+        bytes([nv.interrupt_mask]),
+    )
+    return IMAGE_MARK + IMAGE_VERSION + b"".join(cells)
+
+
+def cut(content, sizes):
+    """The parts, one behind the other, of the given sizes."""
+    parts = []
+    for size in sizes:
+        parts.append(content[:size])
+        content = content[size:]
+    return parts
+
+
+def with_image(state, image):
+    """The state with its nonvolatile cells, in item order, replaced by those of an image."""
+    sizes = (17, 3, 4, 4, 5, 5, 5, SLOTS * 5, 1)
+    parts = cut(image[IMAGE_HEAD:], sizes)
+    name, firmware, serial, address, one_byte, first_row, second_row, slots, mask = parts
+    return state._replace(
+        name=name,
+        firmware=firmware,
+        serial=serial,
+        address=address,
+        nv=Settings(*one_byte, (first_row, second_row), *mask),
+        slots=tuple(cut(slots, SLOTS * (5,))),
+    )
+
+
+def holds_valid_image(state):
+    """The contents of the image are valid: name, nonvolatile settings and slots."""
+    return 0x00 in state.name and is_valid_settings(state.nv) and are_valid_slots(state.slots)
+
+
+def save(state, image):
+    """Refusal, length of the image and the whole buffer afterwards: 17, 2."""
+    if len(image) != IMAGE_LENGTH:
+        return IMAGE_LENGTH_WRONG, 0, image
+    if not is_valid(state):
+        return INVALID, 0, image
+    return ACCEPTED, IMAGE_LENGTH, image_of(state)
+
+
+def load(state, image):
+    """State afterwards and refusal: 17, 18, 19, then 2 for the image alone.
+
+    The image's cells are replaced, and then it powers up; whether the state was valid before
+    doesn't matter.
+    """
+    if len(image) != IMAGE_LENGTH:
+        return state, IMAGE_LENGTH_WRONG
+    if not image.startswith(IMAGE_MARK):
+        return state, MARK_WRONG
+    if image[len(IMAGE_MARK) : IMAGE_HEAD] != IMAGE_VERSION:
+        return state, VERSION_WRONG
+    loaded = with_image(state, image)
+    if not holds_valid_image(loaded):
+        return state, INVALID
+    return powered_up(loaded), ACCEPTED
 
 
 # ---- 01, "Examples", the replay program's lines ----------------------------------------------

@@ -14,8 +14,8 @@ import sys
 sys.dont_write_bytecode = True  # leaves no files beside the tests
 
 import reference
-from library import BYTE, POINTER, SIZE, Calls, Problem, build, struct
-from payloads import WRAPS, edge_payloads, frame, random_payload
+from library import ANALOG_INPUT, BYTE, POINTER, SIZE, Calls, Problem, build, struct
+from payloads import PAYLOAD_ORDER, WRAPS, edge_payloads, frame, random_payload
 
 SEED = 20240001
 
@@ -23,11 +23,6 @@ SEED = 20240001
 
 # Each function's result and arguments.
 SIGNATURES = {
-    "probe_readout": (
-        struct(refusal=BYTE, readout=ctypes.c_uint16),
-        (POINTER, SIZE, ctypes.c_int16),
-    ),
-    "probe_percent": (BYTE, (ctypes.c_uint16,)),
     "probe_frame_refusal": (BYTE, (POINTER, SIZE)),
     "probe_frame_span": (struct(start=SIZE, length=SIZE), (POINTER, SIZE)),
     "probe_payload_refusal": (BYTE, (POINTER, SIZE)),
@@ -35,10 +30,7 @@ SIGNATURES = {
     "probe_accepts": (BYTE, (BYTE,) * 6),
     "probe_is_slot_index": (BYTE, (BYTE,)),
     "probe_is_input_number": (BYTE, (BYTE,)),
-    "probe_encode_command": (
-        struct(refusal=BYTE, length=SIZE),
-        (POINTER, SIZE, SIZE, POINTER, SIZE),
-    ),
+    "probe_signed_offset": (ctypes.c_int16, (ANALOG_INPUT,)),
     "probe_read_line": (struct(outcome=BYTE, length=SIZE), (POINTER, SIZE, POINTER, SIZE)),
     "probe_write_block": (SIZE, (POINTER, SIZE, POINTER, SIZE)),
     "probe_write_refused": (SIZE, (BYTE, POINTER, SIZE)),
@@ -49,17 +41,6 @@ SIGNATURES = {
 class Comparison(Calls):
     """A method for each function of the library: it calls the library and the reference, compares
     what came, and returns it."""
-
-    def readout(self, readings, offset):
-        address = self.input.give(b"".join(r.to_bytes(2, sys.byteorder) for r in readings))
-        result = self.library.probe_readout(address, len(readings), offset)
-        expected = reference.readout(readings, offset)
-        came = result.refusal, result.readout
-        return self.called("probe_readout", expected, came, readings=readings, offset=offset)
-
-    def percent(self, readout):
-        came = self.library.probe_percent(readout)
-        return self.called("probe_percent", reference.percent(readout), came, readout=readout)
 
     def frame(self, block):
         refusal, start, length = reference.read_frame(block)
@@ -103,15 +84,10 @@ class Comparison(Calls):
             "probe_is_input_number", int(reference.is_input_number(number)), came, number=number
         )
 
-    def encode(self, payload, wake, frame):
-        result = self.library.probe_encode_command(
-            self.input.give(payload), len(payload), wake, self.output.give(frame), len(frame)
-        )
-        expected = reference.encode_command(payload, wake, frame)
-        came = result.refusal, result.length, self.output.content()
-        return self.called(
-            "probe_encode_command", expected, came, payload=payload, wake=wake, frame=frame
-        )
+    def signed_offset(self, row):
+        came = self.library.probe_signed_offset(ANALOG_INPUT.from_buffer_copy(row))
+        expected = int.from_bytes(row[3:], "big", signed=True)
+        return self.called("probe_signed_offset", expected, came, row=row)
 
     def read_line(self, line, buffer):
         block = reference.parse_line(line)
@@ -198,37 +174,6 @@ PRINTED_EXAMPLES = (
 )
 REFUSED_EXAMPLES = ((12, "refused 12\n"), (10, "refused 10\n"))
 
-READOUT_EXAMPLES = (
-    ([3563, 3564], 0, 57016),
-    ([4095], 15, 65535),
-    ([4095], 16, 65535),
-    ([0], -1, 0),
-)
-PERCENT_EXAMPLES = ((57016, 87), (327, 0), (328, 1))
-
-# The order of refusals, where a payload breaks several rules at once.
-PAYLOAD_ORDER = (
-    ("", 3),
-    ("05", 7),  # an unserved command, before its missing item
-    ("83", 7),
-    ("05 17", 7),
-    ("01", 8),  # a missing item
-    ("81 00", 8),  # a long 81
-    ("82 00", 8),
-    ("02 17 00 00", 9),  # an unserved item, before its length
-    ("02 01", 10),  # a command that isn't permitted, before its length
-    ("04 26", 10),
-    ("03 25 00", 10),
-    ("01 16", 8),  # any other wrong length, before index and value
-    ("01 15 00", 8),
-    ("02 15", 8),
-    ("02 15 07 00", 8),
-    ("04 18 28 00 00 00 00", 8),
-    ("04 18 28 00 00 00 00 01", 11),  # the index, before the value
-    ("02 16 00 03 00 02 00 00", 11),
-    ("02 16 01 03 00 02 00 00", 12),
-)
-
 
 def check_examples(compare, rng):
     """The paper's examples: the reference and the library give what the paper gives."""
@@ -247,11 +192,6 @@ def check_examples(compare, rng):
         payload = bytes.fromhex(text)
         came = compare.payload(payload)
         compare.same("the order of refusals", expected, came, payload=payload)
-    for readings, offset, expected in READOUT_EXAMPLES:
-        came = compare.readout(readings, offset)
-        compare.same("an example", (0, expected), came, readings=readings, offset=offset)
-    for readout, expected in PERCENT_EXAMPLES:
-        compare.same("an example", expected, compare.percent(readout), readout=readout)
 
 
 def check_example_lines(compare, rng):
@@ -267,40 +207,6 @@ def check_example_lines(compare, rng):
         compare.same("a line printed", text.encode("ascii"), out[:length], refusal=refusal)
     length, out = compare.write_not_hex(rng.randbytes(40))
     compare.same("a line printed", b"not hex\n", out[:length])
-
-
-# ---- Readout and percent ---------------------------------------------------------------------
-
-
-def check_readout(compare, rng):
-    offsets = (-32768, -1, 0, 1, 15, 16, 32767)
-    for count, offset in itertools.product(range(18), offsets):
-        for reading in (0, 1, 4094, 4095, 4096, 65535):
-            compare.readout([reading] * count, offset)
-        for place, high in itertools.product(range(count), (4096, 65535)):
-            readings = [rng.randrange(4096) for _ in range(count)]
-            readings[place] = high
-            compare.readout(readings, offset)
-        for _ in range(20):
-            readings = [rng.randrange(4096) for _ in range(count)]
-            compare.readout(readings, offset)
-            compare.readout(readings, rng.randrange(-32768, 32768))
-            compare.readout([rng.randrange(65536) for _ in range(count)], offset)
-    # the average is near one of its ends, and so is the readout
-    for count in range(1, 17):
-        for _ in range(100):
-            high = [rng.randrange(4090, 4096) for _ in range(count)]
-            compare.readout(high, rng.randrange(-20, 100))
-            low = [rng.randrange(6) for _ in range(count)]
-            compare.readout(low, rng.randrange(-100, 20))
-    for wrap, count in itertools.product(WRAPS, (0, 1, 16)):
-        compare.readout([4095] * (wrap + count), 0)
-        compare.readout([4096] * (wrap + count), 0)
-
-
-def check_percent(compare, rng):
-    for readout in range(65536):
-        compare.percent(readout)
 
 
 # ---- Frame -----------------------------------------------------------------------------------
@@ -409,55 +315,29 @@ def check_random_payloads(compare, rng):
         compare.payload(rng.randbytes(rng.randrange(24, 300)))
 
 
-# ---- Command writer --------------------------------------------------------------------------
+# ---- Offsets of analog inputs ----------------------------------------------------------------
 
-# Each refusal that the writer can give for a payload, and accepted ones of each length.
-WRITER_PAYLOADS = tuple(
-    bytes.fromhex(text)
-    for text in (
-        "",
-        "05 15",
-        "01",
-        "81 00",
-        "01 17",
-        "03 25",
-        "02 15 03 00",
-        "01 16 00",
-        "04 18 28 01 02 03 04 05",
-        "02 15 07",
-        "04 18 27 00 00 00 00 01",
-        "81",
-        "01 15",
-        "02 13 EC",
-        "03 18 00",
-        "04 10 FF FF FF FF",
-        "02 16 02 04 10 01 80 00",
-        "04 18 27 01 02 03 04 05",
-    )
+OFFSETS = (
+    ("00 00", 0),
+    ("00 01", 1),
+    ("00 FF", 255),
+    ("01 00", 256),
+    ("7F FF", 32767),
+    ("80 00", -32768),
+    ("80 01", -32767),
+    ("FF 00", -256),
+    ("FF FF", -1),
 )
-WAKES = (*range(19), 2**8, 2**8 + 16, 2**16, 2**32, 2**32 + 1, 2**63, 2**64 - 1)
 
 
-def check_writer(compare, rng):
-    for payload, wake, size in itertools.product(WRITER_PAYLOADS, WAKES, range(41)):
-        compare.encode(payload, wake, rng.randbytes(size))
-    for payload, wake, wrap in itertools.product(WRITER_PAYLOADS, (0, 16, 17), WRAPS):
-        compare.encode(payload, wake, rng.randbytes(wrap))
-        compare.encode(payload + bytes(wrap), wake, rng.randbytes(27))
-    for _ in range(8000):
-        wake = rng.choice((rng.randrange(19), rng.randrange(2**64)))
-        compare.encode(random_payload(rng), wake, rng.randbytes(rng.randrange(20, 60)))
-
-
-def check_written_frames(compare, rng):
-    """What the writer writes, the module reads as that payload."""
-    for payload, wake in itertools.product(edge_payloads(), (0, 1, 16)):
-        if reference.validate_payload(payload) != 0:
-            continue
-        refusal, length, buffer = compare.encode(payload, wake, rng.randbytes(27))
-        refusal, start, size = compare.frame(buffer[:length])
-        read = refusal, buffer[start : start + size]
-        compare.same("a frame read back", (0, payload), read, payload=payload, wake=wake)
+def check_offsets(compare, rng):
+    """The edges, then every pair of bytes; the other bytes of the row don't matter."""
+    for text, expected in OFFSETS:
+        for others in (bytes(3), b"\xff\xff\xff", b"\x07\x10\x01"):
+            row = others + bytes.fromhex(text)
+            compare.same("an offset", expected, compare.signed_offset(row), row=row)
+    for number in range(65536):
+        compare.signed_offset(rng.randbytes(3) + number.to_bytes(2, "big"))
 
 
 # ---- Lines of the replay program -------------------------------------------------------------
@@ -538,8 +418,6 @@ def check_written_words(compare, rng):
 CHECKS = (
     ("examples", check_examples),
     ("example lines", check_example_lines),
-    ("readouts", check_readout),
-    ("percents", check_percent),
     ("frames by wake count and length byte", check_frame_lengths),
     ("damaged frames", check_frame_damage),
     ("random blocks", check_frame_random),
@@ -550,8 +428,7 @@ CHECKS = (
     ("payloads of at most two bytes", check_short_payloads),
     ("payloads by command, item, length, index, value", check_edge_payloads),
     ("random payloads", check_random_payloads),
-    ("command writer", check_writer),
-    ("written frames read back", check_written_frames),
+    ("offsets of analog inputs", check_offsets),
     ("lines of random blocks", check_lines_of_blocks),
     ("lines by buffer size", check_line_buffers),
     ("long lines", check_long_lines),

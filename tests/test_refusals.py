@@ -1,6 +1,6 @@
 #!/usr/bin/env python3
-"""The numbers of document 01, "Numbers that a refusal carries": the constants and the definitions have them, and no other file
-holds one as a bare number."""
+"""The numbers of document 01, "Numbers that a refusal carries": the constants, the definitions and the C header have them, and no
+other file holds one as a bare number."""
 import os
 import re
 import sys
@@ -64,6 +64,11 @@ def main():
     wanted = {camel(name): number for name, number in wanted.items()}
     if definitions != wanted:
         sys.exit("definitions: %r, expected %r" % (definitions, wanted))
+
+    header = dict(re.findall(r"^    CDI_REFUSAL_(\w+) = (\d+),? ", read(os.path.join(ROOT, "include", "cdi.h")), re.M))
+    wanted = {"NONE": "0", **{name: str(number) for name, number in NUMBERS.items()}}
+    if header != wanted:
+        sys.exit("the C header: %r, expected %r" % (header, wanted))
 
     source = "a\nreturn Frame::Refused(\n    3,\n);\n// Refused(4)\n"
     definition = "(refused 12)\n-- refused 7\n(result 15 0)\n"

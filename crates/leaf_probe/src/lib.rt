@@ -1,25 +1,23 @@
-// The entries of the leaf crates behind the C ABI, for the tests that compare them with an independent implementation. It adds
+// Functions that no C entry calls alone, behind the C ABI for the tests that compare them with an independent implementation. It adds
 // nothing: each function hands its arguments on and turns an enum into numbers.
 ghost use mathlib.Core.Path.{_≡_};
 ghost use mathlib.Core.List.{[], _∷_};
 ghost use lib.ListN.{length};
-ghost use Rattle.refusal.specs.Refusal.{refusalOf, outcomeOf, bufferAfter};
-ghost use Rattle.analog.specs.Analog.{readoutOf, percentOf};
+ghost use Rattle.refusal.specs.Refusal.{refusalOf};
 ghost use Rattle.cdi_item.specs.Items.{itemOf, isSlotIndex, isInputNumber};
 ghost use Rattle.cdi_item.specs.Values.{acceptedValue};
 ghost use Rattle.cdi_frame.specs.Frame.{readFrame, wakeLimit};
 ghost use Rattle.cdi_command.specs.Command.{validatePayload};
-ghost use Rattle.cdi_host.specs.Encode.{encodeCommand};
+ghost use Rattle.cdi_state.specs.State.{inputOffset};
 ghost use Rattle.hex_text.specs.Hex.{hexLine, lineAnswer, lineWritten, hexText, refusedText, notHexText, printed, lengthIn, writtenIn};
 ghost use Rattle.leaf_probe.specs.Probe.{bit, spanProbe, itemProbe, lineProbe};
-use analog::ReadoutResult;
 use cdi_command::Validated;
 use cdi_frame::Frame;
 use cdi_item::Lookup;
 use cdi_item::Value;
+use cdi_state::AnalogInput;
 use hex_text::HexLine;
 use refusal::NONE;
-use refusal::Outcome;
 
 // Where a payload lies in a block; both 0 on a refusal.
 #[repr(C)]
@@ -56,22 +54,6 @@ fn bit(b: bool) -> u8
     ensures { λ r. ⌜ r ≡ bit b ⌝ }
 {
     if b { 1 } else { 0 }
-}
-
-// The readout of readings, or the number of the refusal.
-#[no_mangle]
-pub extern "C" fn probe_readout(readings: &[u16], offset: i16) -> ReadoutResult
-    ensures { λ r. ⌜ r ≡ readoutOf (now (readings .entry)) offset ⌝ }
-{
-    analog::readout(readings, offset)
-}
-
-// A readout as percent.
-#[no_mangle]
-pub extern "C" fn probe_percent(readout: u16) -> u8
-    ensures { λ r. ⌜ r ≡ percentOf readout ⌝ }
-{
-    analog::percent(readout)
 }
 
 // The number of the refusal of a block as a frame, 0 where it is one.
@@ -174,12 +156,12 @@ pub extern "C" fn probe_is_input_number(byte: u8) -> u8
     bit(cdi_item::is_input_number(byte))
 }
 
-// Writes a payload as the frame of a command over the front of `frame`.
+// The offset of an input as a signed number.
 #[no_mangle]
-pub extern "C" fn probe_encode_command(payload: &[u8], wake: usize, frame: &mut [u8]) -> Outcome
-    ensures { λ r. ⌜ (r ≡ outcomeOf (encodeCommand (now (payload .entry)) wake (length (now (frame .entry))))) × (now (frame .exit) ≡ bufferAfter (encodeCommand (now (payload .entry)) wake (length (now (frame .entry)))) (now (frame .entry))) ⌝ }
+pub extern "C" fn probe_signed_offset(input: AnalogInput) -> i16
+    ensures { λ r. ⌜ r ≡ inputOffset input ⌝ }
 {
-    cdi_host::encode_command(payload, wake, frame)
+    input.signed_offset()
 }
 
 // Reads a line of hex into the front of `block`.
