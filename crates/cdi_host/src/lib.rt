@@ -4,7 +4,7 @@ ghost use Prim.Native.Nat.{_+_, _≤_};
 ghost use lib.ListN.{length, replicate};
 ghost use lib.Seq.{sets};
 ghost use Rattle.logic.specs.Written.{written};
-ghost use Rattle.refusal.specs.Refusal.{outcome, outcomeOf, bufferAfter};
+ghost use Rattle.refusal.specs.Refusal.{outcomeOf, bufferAfter};
 ghost use Rattle.cdi_frame.specs.Frame.{wakeLimit};
 ghost use Rattle.cdi_frame.specs.Layout.{wake as wakeByte, commandPrefix, commandFrame};
 ghost use Rattle.cdi_command.specs.Payload.{payloadMax};
@@ -22,16 +22,6 @@ use refusal::WAKE_COUNT_OVER;
 
 // The longest frame has 16 wake bytes, three bytes around them and 8 payload bytes.
 pub const FRAME_BUFFER_MIN: usize = 27;
-
-// A refusal writes nothing.
-fn refused(number: u8) -> Outcome
-    ensures { λ r. ⌜ r ≡ outcome number 0 ⌝ }
-{
-    Outcome {
-        refusal: number,
-        length: 0,
-    }
-}
 
 // Writes the wake bytes from the frame's second byte on.
 fn write_wakes(wake: usize, frame: &mut [u8])
@@ -73,14 +63,14 @@ pub fn encode_command(payload: &[u8], wake: usize, frame: &mut [u8]) -> Outcome
     ensures { λ r. ⌜ (r ≡ outcomeOf (encodeCommand (now (payload .entry)) wake (length (now (frame .entry))))) × (now (frame .exit) ≡ bufferAfter (encodeCommand (now (payload .entry)) wake (length (now (frame .entry)))) (now (frame .entry))) ⌝ }
 {
     if frame.len() < FRAME_BUFFER_MIN {
-        return refused(FRAME_BUFFER_SHORT);
+        return refusal::refused(FRAME_BUFFER_SHORT);
     }
     if wake > WAKE_LIMIT {
-        return refused(WAKE_COUNT_OVER);
+        return refusal::refused(WAKE_COUNT_OVER);
     }
     let validated = cdi_command::validate_payload(payload);
     match validated {
-        Validated::Refused(number) => refused(number),
+        Validated::Refused(number) => refusal::refused(number),
         Validated::Accepted(_) => {
             let length = write_frame(payload, wake, frame);
             Outcome {

@@ -5,7 +5,7 @@ mod write;
 
 ghost use mathlib.Core.Path.{_≡_};
 ghost use lib.ListN.{length};
-ghost use Rattle.refusal.specs.Refusal.{outcome, outcomeOf, bufferAfter};
+ghost use Rattle.refusal.specs.Refusal.{outcomeOf, bufferAfter};
 ghost use Rattle.cdi_image.specs.Image.{saved, loaded, loadedAs};
 use cdi_state::ModuleState;
 use refusal::IMAGE_LENGTH;
@@ -49,8 +49,6 @@ pub(crate) const INTERRUPT_MASK_AT: usize = 248;
 // The bytes of a row of item 16 or 18.
 pub(crate) const ROW_SIZE: usize = 5;
 
-pub(crate) const SLOT_COUNT: usize = 40;
-
 // What came of a load: the state after it, and the number of the refusal or 0.
 #[repr(C)]
 pub struct Loaded {
@@ -58,25 +56,15 @@ pub struct Loaded {
     pub refusal: u8,
 }
 
-// A refusal writes nothing.
-fn save_refused(number: u8) -> Outcome
-    ensures { λ r. ⌜ r ≡ outcome number 0 ⌝ }
-{
-    Outcome {
-        refusal: number,
-        length: 0,
-    }
-}
-
 // Writes the image of a state, which fills `image`. A refusal writes no byte of it.
 pub fn save(state: ModuleState, image: &mut [u8]) -> Outcome
     ensures { λ r. ⌜ (r ≡ outcomeOf (saved state (length (now (image .entry))))) × (now (image .exit) ≡ bufferAfter (saved state (length (now (image .entry)))) (now (image .entry))) ⌝ }
 {
     if image.len() != IMAGE_SIZE {
-        return save_refused(IMAGE_LENGTH);
+        return refusal::refused(IMAGE_LENGTH);
     }
     if !state.is_valid() {
-        return save_refused(INVALID);
+        return refusal::refused(INVALID);
     }
     write::write_image(state, image);
     Outcome {

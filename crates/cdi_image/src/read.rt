@@ -13,12 +13,12 @@ use super::NAME_AT;
 use super::ROW_SIZE;
 use super::SERIAL_AT;
 use super::SETTINGS_AT;
-use super::SLOT_COUNT;
 use super::SLOTS_AT;
 use super::VERSION;
 use super::VERSION_AT;
 use cdi_state::AnalogInput;
 use cdi_state::ModuleState;
+use cdi_state::SLOT_COUNT;
 use cdi_state::Settings;
 use cdi_state::Slot;
 

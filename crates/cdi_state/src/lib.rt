@@ -138,7 +138,7 @@ fn signed_pair(high: u8, low: u8) -> i16
 // The bytes of a stored name.
 pub const NAME_LENGTH: usize = 17;
 
-const SLOT_COUNT: usize = 40;
+pub const SLOT_COUNT: usize = 40;
 
 // What both RSSI bytes hold before a signal was measured.
 pub const RSSI_NONE: u8 = 0x80;

@@ -12,20 +12,20 @@ use Rattle.logic.proofs.Written.{written-all}
 use Rattle.cdi_image.proofs.save.Statement.{statement}
 use Rattle.cdi_image.proofs.save.Tie as tie
 
-save-refused-requires : tie.Need-save-refused-requires
-save-refused-requires c κs = search needs
+refused-requires : tie.Need-refused-requires
+refused-requires c κs = search needs
 
 returns : tie.Need-returns
 unfolding saved
 returns c =
     let image = c .before .before .before .args .image .now in
-    simp (ne-eqb (length image) imageSize (c .before .if1 .taken)) (c .save-refused .ensures, refl)
+    simp (ne-eqb (length image) imageSize (c .before .if1 .taken)) (c .refused .ensures, refl)
 
 is-valid-requires : tie.Need-is-valid-requires
 is-valid-requires c κs = search needs
 
-save-refused-requires-2 : tie.Need-save-refused-requires-2
-save-refused-requires-2 c κs = search needs
+refused-requires-2 : tie.Need-refused-requires-2
+refused-requires-2 c κs = search needs
 
 returns-2 : tie.Need-returns-2
 unfolding saved
@@ -33,7 +33,7 @@ returns-2 c =
     let v = c .before .before in
     let image = v .before .before .before .args .image .now in
     simp (eq-eqb (length image) imageSize (v .before .if1 .left), sym (v .is-valid .ensures) ∙ not-true (v .is-valid .result) (c .before .if2 .taken))
-    (c .save-refused2 .ensures, refl)
+    (c .refused2 .ensures, refl)
 
 write-image-requires : tie.Need-write-image-requires
 write-image-requires c κs = search needs
@@ -56,10 +56,10 @@ pub save-spec : {M : Type 1} → statement M
 save-spec =
     tie.close
     (tie.spec
-    save-refused-requires
+    refused-requires
     returns
     is-valid-requires
-    save-refused-requires-2
+    refused-requires-2
     returns-2
     write-image-requires
     same-length
