@@ -2,13 +2,14 @@
 -- nobody has to believe `withImage`: an image that is loaded is the image of the state, and no other cell is touched but by power-up.
 use Prim.Native.Nat.{ℕ}
 use mathlib.Core.Path.{_≡_}
-use mathlib.Core.List.{List, [], _∷_, _++_}
+use mathlib.Core.List.{List, [], _∷_, _++_, map, flatMap}
 use mathlib.Core.Bool.{Bool, true, false, cond, Bool·beq}
 use lib.ListN.{replicate}
+use Rattle.logic.specs.Lists.{below}
 use Rattle.refusal.specs.Refusal.{accepted}
 use Rattle.cdi_state.specs.declared.Settings.{Settings}
 use Rattle.cdi_state.specs.declared.ModuleState.{ModuleState}
-use Rattle.cdi_state.specs.State.{emptySlot, factoryState, ArrayLengths, FieldLengths}
+use Rattle.cdi_state.specs.State.{factoryState, ArrayLengths, FieldLengths}
 use Rattle.cdi_state.specs.Valid.{isValid}
 use Rattle.cdi_model.specs.Cells.{nv, working, Single, name, firmware, serial, lines, rssi, ladj, events, flags, hardwarePower, hardwareLineMask, hardwareLatchMask, Cell, stored, single}
 use Rattle.cdi_model.specs.Table.{powerUpStores}
@@ -42,7 +43,7 @@ pub record KeptCells : Type 0 where
   pub no-others : all (λ c. isIn c everyCell) imageCells ≡ true
   pub each-once : allApart imageCells ≡ true
 
--- a state in which every cell of the image holds something else, and what is not in the image is 00
+-- a state in which no two cells of the image hold the same
 abbrev sampleSettings : Settings
 sampleSettings = record {
   «line_mask» = 0x51;
@@ -64,9 +65,7 @@ sampleState = record {
   address = 0x41 ∷ 0x42 ∷ 0x43 ∷ 0x44 ∷ [];
   nv = sampleSettings;
   working = factoryState .working;
-  slots =
-      record { address = 0x81 ∷ 0x82 ∷ 0x83 ∷ 0x84 ∷ []; mask = 0x85 } ∷ replicate 38 emptySlot ++
-      record { address = 0x91 ∷ 0x92 ∷ 0x93 ∷ 0x94 ∷ []; mask = 0x95 } ∷ [];
+  slots = map (λ i. record { address = i ∷ 0x82 ∷ 0x83 ∷ 0x84 ∷ []; mask = 0x85 }) (below 40 []);
   lines = replicate 2 0;
   rssi = replicate 2 0;
   ladj = 0;
@@ -82,7 +81,7 @@ SampleImage =
     0x53 ∷ 0x57 ∷ 0x42 ∷ 0x00 ∷ 0x01 ∷
     replicate 16 0x11 ++ 0x12 ∷ 0x21 ∷ 0x22 ∷ 0x23 ∷ 0x31 ∷ 0x32 ∷ 0x33 ∷ 0x34 ∷ 0x41 ∷ 0x42 ∷ 0x43 ∷ 0x44 ∷
     0x51 ∷ 0x52 ∷ 0x53 ∷ 0x54 ∷ 0x55 ∷ 0x61 ∷ 0x62 ∷ 0x63 ∷ 0x64 ∷ 0x65 ∷ 0x71 ∷ 0x72 ∷ 0x73 ∷ 0x74 ∷ 0x75 ∷
-    0x81 ∷ 0x82 ∷ 0x83 ∷ 0x84 ∷ 0x85 ∷ replicate 190 0x00 ++ 0x91 ∷ 0x92 ∷ 0x93 ∷ 0x94 ∷ 0x95 ∷ 0x56 ∷ []
+    flatMap (λ i. i ∷ 0x82 ∷ 0x83 ∷ 0x84 ∷ 0x85 ∷ []) (below 40 []) ++ 0x56 ∷ []
 
 -- what Save writes Load takes, on any state, and gives back the same cells. The lengths are those that every state of a program has
 pub record Reloaded (s t : ModuleState) (image : List ℕ) : Type 0 where
