@@ -1,7 +1,7 @@
 #!/usr/bin/env python3
 """The gate passes on a good repository and fails where it must: on a crate that crates.txt does not list, on an empty or a
-missing list, on a function that is not proved, on a must-fail edit that is, on a bad layout, on a test that fails or says nothing,
-without tests, and without its tools.
+missing list, on a function that is not proved, on a must-fail edit that is, on a bad layout, on a test that fails (also one
+whose name has quotes or a space), that is killed or says nothing, without tests, and without its tools.
 
 Each case is a scratch copy of this repository with one fault. To be quick, a copy keeps the lowest crate alone; its tests are one
 that passes, so that this one does not start itself.
@@ -69,6 +69,18 @@ def failing_test(copy):
     write(os.path.join(copy, "tests", "test_other.py"), "import sys\nsys.exit('a fault')\n")
 
 
+def killed_test(copy):
+    write(os.path.join(copy, "tests", "test_other.py"), "import os\nprint('fine', flush=True)\nos.kill(os.getpid(), 9)\n")
+
+
+def quoted_test(copy):
+    write(os.path.join(copy, "tests", 'test_"sample".py'), "import sys\nsys.exit('a fault')\n")
+
+
+def spaced_test(copy):
+    write(os.path.join(copy, "tests", "test_ sample.py"), "import sys\nsys.exit('a fault')\n")
+
+
 def silent_test(copy):
     write(os.path.join(copy, "tests", "below", "test_silent.py"), "")
 
@@ -97,6 +109,9 @@ CASES = [
     (empty_list, True, "the proofs failed"),
     (missing_list, True, "the proofs failed"),
     (failing_test, True, "tests/test_other.py: FAILED"),
+    (killed_test, True, "tests/test_other.py: FAILED"),
+    (quoted_test, True, 'tests/test_"sample".py: FAILED'),
+    (spaced_test, True, "tests/test_ sample.py: FAILED"),
     (silent_test, True, "tests/below/test_silent.py: FAILED"),
     (other_test, True, "tests/test_other.txt: FAILED"),
     (no_test, True, "no test under tests/"),
