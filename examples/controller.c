@@ -25,7 +25,7 @@ static void print_bytes(const char *what, const uint8_t *bytes, size_t count)
 static bool command(cdi_module_state *state, const uint8_t *payload, size_t size)
 {
     uint8_t block[CDI_FRAME_BUFFER_MIN];
-    uint8_t response[CDI_RESPONSE_MAX];
+    uint8_t response[CDI_RESPONSE_BUFFER_MIN];
 
     cdi_outcome encoded = cdi_encode_command(payload, size, 2, block, sizeof block);
     if (encoded.refusal != CDI_REFUSAL_NONE) {
@@ -56,10 +56,10 @@ static bool configure(cdi_module_state *state)
 }
 
 /* The charge of the pack behind an analog input, in percent; -1 where the readings are refused. */
-static int charge(const cdi_analog_input *input, const uint16_t *readings)
+static int charge(const cdi_analog_input *input, const uint16_t *readings, size_t count)
 {
     int16_t offset = (int16_t)((input->offset[0] << 8) | input->offset[1]);
-    cdi_readout_result result = cdi_readout(readings, input->readings, offset);
+    cdi_readout_result result = cdi_readout(readings, count, offset);
 
     if (result.refusal != CDI_REFUSAL_NONE) {
         printf("%-10s refused %u\n", "readout", result.refusal);
@@ -86,9 +86,10 @@ static bool survive_power_loss(cdi_module_state *state)
     printf("%-10s message select %u, power %d dBm\n", "loaded", state->working.message_select,
            (int8_t)state->working.tx_power);
 
-    image[3] = 1; /* not a version that is known */
-    printf("%-10s refused %u\n", "load", cdi_load(state, image, sizeof image));
-    return memcmp(&kept, &state->nv, sizeof kept) == 0
+    image[3] = 1; /* no version that there is */
+    uint8_t refusal = cdi_load(state, image, sizeof image);
+    printf("%-10s refused %u\n", "load", refusal);
+    return refusal == CDI_REFUSAL_IMAGE_VERSION && memcmp(&kept, &state->nv, sizeof kept) == 0
         && memcmp(&kept, &state->working, sizeof kept) == 0;
 }
 
@@ -100,7 +101,7 @@ int main(void)
 
     bool done = cdi_power_up(&state) == CDI_REFUSAL_NONE && configure(&state)
         && !command(&state, too_strong, sizeof too_strong)
-        && charge(&state.working.analog_inputs[1], readings) == 87 && survive_power_loss(&state);
+        && charge(&state.working.analog_inputs[1], readings, 2) == 87 && survive_power_loss(&state);
     printf("%s\n", done ? "done" : "failed");
     return done ? 0 : 1;
 }

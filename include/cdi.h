@@ -14,10 +14,12 @@
  *   - The caller owns all memory. Nothing is allocated, kept after the return, or shared between
  *     calls: calls on different states may run at the same time.
  *   - A pointer is not NULL, also where the length beside it is 0, and the regions that a call is
- *     handed do not overlap.
+ *     handed do not overlap. Readings are aligned as uint16_t is; a state and bytes may lie
+ *     anywhere.
  *   - What it reads and what it writes is told at the function; all else stays as it was.
  *
- * Numbers in the form 0x.. are bytes on the wire.
+ * Numbers in the form 0x.. are bytes on the wire. The header needs C11 or C++11, for its assertions
+ * on the layout; the library needs memcpy and memset.
  */
 #ifndef CDI_H
 #define CDI_H
@@ -32,30 +34,30 @@ extern "C" {
 /* ---- Sizes and limits -------------------------------------------------------------------------- */
 
 enum {
-    CDI_RESPONSE_MAX = 22,      /* bytes of the longest response; a response buffer has as many or more */
-    CDI_FRAME_BUFFER_MIN = 27,  /* bytes of the longest command; a command's buffer has as many or more */
-    CDI_IMAGE_SIZE = 249,       /* bytes of a stored image, no more and no fewer */
-    CDI_WAKE_LIMIT = 16,        /* the most wake bytes in a frame */
-    CDI_NAME_LENGTH = 17,       /* bytes of a stored name */
-    CDI_INPUT_COUNT = 2,        /* analog inputs: on the wire 1 and 2, in analog_inputs[] 0 and 1 */
-    CDI_SLOT_COUNT = 40,        /* paired modules: 0 to 39 on the wire and in slots[] */
-    CDI_READINGS_MAX = 16,      /* the most readings behind one readout */
-    CDI_READING_MAX = 4095      /* the largest reading of the 12-bit converter */
+    CDI_RESPONSE_BUFFER_MIN = 22,  /* bytes that a response buffer has at least: the longest response */
+    CDI_FRAME_BUFFER_MIN = 27,     /* bytes that a command's buffer has at least: the longest command */
+    CDI_IMAGE_SIZE = 249,          /* bytes of a stored image, no more and no fewer */
+    CDI_WAKE_LIMIT = 16,           /* the most wake bytes in a frame */
+    CDI_NAME_LENGTH = 17,          /* bytes of a stored name */
+    CDI_INPUT_COUNT = 2,           /* analog inputs: on the wire 1 and 2, in analog_inputs[] 0 and 1 */
+    CDI_SLOT_COUNT = 40,           /* paired modules: 0 to 39 on the wire and in slots[] */
+    CDI_READINGS_MAX = 16,         /* the most readings behind one readout */
+    CDI_READING_MAX = 4095         /* the largest reading of the 12-bit converter */
 };
 
 /* ---- Refusals ---------------------------------------------------------------------------------- */
 
 enum {
     CDI_REFUSAL_NONE = 0,                   /* accepted */
-    CDI_REFUSAL_RESPONSE_BUFFER_SHORT = 1,  /* the response buffer has fewer than CDI_RESPONSE_MAX bytes */
+    CDI_REFUSAL_RESPONSE_BUFFER_SHORT = 1,  /* the response buffer has fewer than CDI_RESPONSE_BUFFER_MIN bytes */
     CDI_REFUSAL_INVALID = 2,                /* the state, or what an image holds, is not valid: see "The state" */
     CDI_REFUSAL_ENDS_EARLY = 3,             /* the block or the payload ends where more bytes were to come */
     CDI_REFUSAL_BAD_START = 4,              /* no 0x80 first, a 17th wake byte, or no 0x55 behind the wake bytes */
     CDI_REFUSAL_BAD_LENGTH_BYTE = 5,        /* the length byte is under 0x81 */
     CDI_REFUSAL_TRAILING_BYTES = 6,         /* bytes follow the frame */
-    CDI_REFUSAL_COMMAND_NOT_SERVED = 7,     /* no command has this code */
+    CDI_REFUSAL_COMMAND_NOT_SERVED = 7,     /* the command is not served */
     CDI_REFUSAL_WRONG_LENGTH = 8,           /* the payload is too short or too long for its command and item */
-    CDI_REFUSAL_ITEM_NOT_SERVED = 9,        /* no item has this code */
+    CDI_REFUSAL_ITEM_NOT_SERVED = 9,        /* the item is not served */
     CDI_REFUSAL_NOT_PERMITTED = 10,         /* the item does not permit the command */
     CDI_REFUSAL_WRONG_INDEX = 11,           /* there is no such slot or input */
     CDI_REFUSAL_VALUE_NOT_ACCEPTED = 12,    /* the item does not accept the value */
@@ -79,7 +81,7 @@ enum {
     CDI_COMMAND_WRITE = 0x02,        /* sets the working value, until the next power-up */
     CDI_COMMAND_READ_NV = 0x03,      /* the stored value */
     CDI_COMMAND_PROGRAM = 0x04,      /* sets the working and the stored value */
-    CDI_COMMAND_SET_DEFAULT = 0x81,  /* sets items 0x11 to 0x16 and 0x25 to their defaults */
+    CDI_COMMAND_SET_DEFAULT = 0x81,  /* sets items 0x11 to 0x16 and 0x25, working and stored, to defaults */
     CDI_COMMAND_ERASE_ALL = 0x82     /* empties all slots */
 };
 
@@ -99,17 +101,22 @@ enum {
     CDI_ITEM_LINE_MASK = 0x11,       /* RNWP  1 byte, any */
     CDI_ITEM_LATCH_MASK = 0x12,      /* RNWP  1 byte, any */
     CDI_ITEM_TX_POWER = 0x13,        /* RNWP  1 byte, signed: -20 to +10 dBm */
-    CDI_ITEM_CONTROL_SOURCE = 0x14,  /* RNWP  1 byte, bits 5 to 7 zero */
+    CDI_ITEM_CONTROL_SOURCE = 0x14,  /* RNWP  1 byte, bits 5 to 7 zero; see cdi_hardware_selection */
     CDI_ITEM_MESSAGE_SELECT = 0x15,  /* RNWP  1 byte, 0 to 6 */
     CDI_ITEM_ANALOG_INPUT = 0x16,    /* RNWP  index 1 or 2; 5 bytes as in cdi_analog_input */
     CDI_ITEM_PAIRED_MODULE = 0x18,   /* RN-P  index 0 to 39; 5 bytes as in cdi_slot */
     CDI_ITEM_LINES = 0x20,           /* R---  2 bytes, live */
     CDI_ITEM_RSSI = 0x21,            /* R---  2 bytes, live */
     CDI_ITEM_LADJ = 0x22,            /* R---  1 byte, live */
-    CDI_ITEM_STATUS = 0x23,          /* R---  4 bytes: flags, and the power, line mask and latch mask in force */
+    CDI_ITEM_STATUS = 0x23,          /* R---  4 bytes, see below */
     CDI_ITEM_INTERRUPT_MASK = 0x25,  /* R-WP  1 byte, any */
     CDI_ITEM_EVENTS = 0x26           /* R---  1 byte, live */
 };
+
+/*
+ * The status: first the flags, with bit 7 set where an event is in the working interrupt mask;
+ * then the power, the line mask and the latch mask in force.
+ */
 
 /* ---- The state ---------------------------------------------------------------------------------
  *
@@ -148,7 +155,10 @@ typedef struct {
     uint8_t interrupt_mask;
 } cdi_settings;
 
-/* What the hardware's pins select, in force where the control source leaves a value to them. */
+/*
+ * What the hardware's pins select. The power, line mask and latch mask in force are those of the
+ * working settings where bit 0, 3 and 4 of the working control source is 1, else these.
+ */
 typedef struct {
     uint8_t power;
     uint8_t line_mask;
@@ -256,9 +266,9 @@ cdi_outcome cdi_encode_command(const uint8_t *payload, size_t payload_len, size_
 /* ---- Analog inputs ----------------------------------------------------------------------------- */
 
 /*
- * The 16-bit readout of `count` readings: 16 times their sum divided by their number, rounded
- * down, plus the offset; at least 0 and at most 65,535. Reads the readings, which the caller owns,
- * and writes nothing. The offset is a signed number; of a cdi_analog_input it is
+ * The 16-bit readout of `count` readings: their mean times 16, rounded down once, with the offset
+ * added; at least 0 and at most 65,535. Reads the readings, which the caller owns, and writes
+ * nothing. The offset is a signed number; of a cdi_analog_input it is
  * (int16_t)((offset[0] << 8) | offset[1]).
  *
  * Refusals, the first that applies: READING_COUNT; READING_OVER.
@@ -280,6 +290,7 @@ uint8_t cdi_percent(uint16_t readout);
 #endif
 
 CDI_HOLDS(sizeof(cdi_slot) == 5);
+CDI_HOLDS(offsetof(cdi_slot, address) == 0);
 CDI_HOLDS(offsetof(cdi_slot, mask) == 4);
 CDI_HOLDS(sizeof(cdi_analog_input) == 5);
 CDI_HOLDS(offsetof(cdi_analog_input, channel) == 0);
@@ -314,8 +325,10 @@ CDI_HOLDS(offsetof(cdi_module_state, flags) == 266);
 CDI_HOLDS(offsetof(cdi_module_state, hardware) == 267);
 CDI_HOLDS(sizeof(size_t) == 8);
 CDI_HOLDS(sizeof(cdi_outcome) == 16);
+CDI_HOLDS(offsetof(cdi_outcome, refusal) == 0);
 CDI_HOLDS(offsetof(cdi_outcome, length) == 8);
 CDI_HOLDS(sizeof(cdi_readout_result) == 4);
+CDI_HOLDS(offsetof(cdi_readout_result, refusal) == 0);
 CDI_HOLDS(offsetof(cdi_readout_result, readout) == 2);
 
 #undef CDI_HOLDS

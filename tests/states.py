@@ -117,9 +117,17 @@ def span_at(at):
     return next(span for span in SPANS[STATE] if at < span[2])
 
 
+def first_place(raw, other):
+    """The place of the first byte in which two runs of bytes differ, or where the shorter ends."""
+    pairs = zip(raw, other)
+    return next((at for at, (one, two) in enumerate(pairs) if one != two), min(len(raw), len(other)))
+
+
 def first_difference(raw, other):
-    """The place of the first byte in which two states differ."""
-    at = next(at for at in range(STATE_SIZE) if raw[at] != other[at])
+    """The place of the first byte in which two states differ, by its field."""
+    at = first_place(raw, other)
+    if at >= STATE_SIZE:
+        return f"the length, {len(raw)} and {len(other)} bytes"
     name, start, _, _ = span_at(at)
     return f"byte {at - start} of {name}"
 

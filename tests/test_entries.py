@@ -42,6 +42,7 @@ from states import (
     any_state,
     changed,
     first_difference,
+    first_place,
     flags_edges,
     name_edges,
     packed,
@@ -110,6 +111,8 @@ class Comparison(Calls):
         what = f"{part} of {entry}"
         if part == "state" and isinstance(came[part], bytes):
             what = f"{first_difference(expected[part], came[part])}, state after {entry}"
+        elif isinstance(expected[part], bytes) and isinstance(came[part], bytes):
+            what = f"byte {first_place(expected[part], came[part])} of the {part} of {entry}"
         self.same(what, expected[part], came[part], **inputs)
 
     def put(self, state, in_place=False):
@@ -248,11 +251,11 @@ class Comparison(Calls):
             self.same_state(changed(state, changes or {}), after, **inputs)
         return after
 
-    def literal_power_up(self, state, refusal, changes={}):
+    def literal_power_up(self, state, refusal, changes=None):
         """A power-up whose outcome is written down."""
         after, came = self.power_up(state)
         self.same("a closed power-up", refusal, came, state=packed(state))
-        self.same_state(changed(state, changes), after, state=packed(state))
+        self.same_state(changed(state, changes or {}), after, state=packed(state))
 
     def literal_save(self, state, buffer, expected):
         """A save whose outcome is written down: the number of a refusal, or the image."""
@@ -260,11 +263,11 @@ class Comparison(Calls):
         came = self.save(state, buffer)
         self.same("a closed save", wanted, came, state=packed(state), buffer=buffer)
 
-    def literal_load(self, state, image, refusal, changes={}):
+    def literal_load(self, state, image, refusal, changes=None):
         """A load whose outcome is written down."""
         after, came = self.load(state, image)
         self.same("a closed load", refusal, came, state=packed(state), image=image)
-        self.same_state(changed(state, changes), after, state=packed(state), image=image)
+        self.same_state(changed(state, changes or {}), after, state=packed(state), image=image)
 
     def same_state(self, wanted, came, **inputs):
         if wanted != came:

@@ -1,7 +1,9 @@
 #!/usr/bin/env python3
-"""The C SDK as its users meet it: ./sdk builds it, the header's numbers are document 01's, the library exports the header's
-functions and nothing else, and the example controller builds without a warning and prints what document 01 has it print."""
+"""The C SDK as its users meet it: ./sdk builds it, the header's numbers are document 01's, its structs are laid out as the structs by
+which test_entries.py calls the library, its functions are those that were agreed with the controllers and all that the library
+exports, and the example controller builds without a warning and prints what document 01 has it print."""
 
+import ctypes
 import re
 import subprocess
 import sys
@@ -11,6 +13,8 @@ sys.dont_write_bytecode = True  # leaves no files beside the tests
 
 import library
 import reference
+import states
+from test_entries import OUTCOME, READOUT_RESULT, SIGNATURES
 
 SDK = library.ROOT / "target" / "sdk"
 HEADER = SDK / "include" / "cdi.h"
@@ -42,7 +46,7 @@ ITEMS = {
     "EVENTS": 0x26,
 }
 LIMITS = {
-    "CDI_RESPONSE_MAX": 22,
+    "CDI_RESPONSE_BUFFER_MIN": 22,
     "CDI_FRAME_BUFFER_MIN": 27,
     "CDI_IMAGE_SIZE": 249,
     "CDI_WAKE_LIMIT": 16,
@@ -51,6 +55,29 @@ LIMITS = {
     "CDI_SLOT_COUNT": 40,
     "CDI_READINGS_MAX": 16,
     "CDI_READING_MAX": 4095,
+}
+
+# The functions, as they were agreed with the controllers.
+FUNCTIONS = """
+cdi_module_state cdi_factory(void);
+cdi_outcome cdi_execute(cdi_module_state *state, const uint8_t *block, size_t block_len, uint8_t *response, size_t response_len);
+uint8_t cdi_power_up(cdi_module_state *state);
+cdi_outcome cdi_save(const cdi_module_state *state, uint8_t *image, size_t image_len);
+uint8_t cdi_load(cdi_module_state *state, const uint8_t *image, size_t image_len);
+cdi_outcome cdi_encode_command(const uint8_t *payload, size_t payload_len, size_t wake, uint8_t *frame, size_t frame_len);
+cdi_readout_result cdi_readout(const uint16_t *readings, size_t count, int16_t offset);
+uint8_t cdi_percent(uint16_t readout);
+"""
+
+# The header's structs, and the tests' own.
+STRUCTS = {
+    "cdi_slot": states.SLOT,
+    "cdi_analog_input": library.ANALOG_INPUT,
+    "cdi_settings": states.SETTINGS,
+    "cdi_hardware_selection": states.HARDWARE_SELECTION,
+    "cdi_module_state": states.STATE,
+    "cdi_outcome": OUTCOME,
+    "cdi_readout_result": READOUT_RESULT,
 }
 
 # What the controller prints, worked out by hand from document 01.
@@ -103,22 +130,53 @@ def check_items(header):
     expect("the items' commands", wanted, {int(code, 16): marks.replace("-", "") for code, marks in told})
 
 
-def check_exports(header):
-    """The library exports the functions that the header declares."""
-    declared = set(re.findall(r"^[a-z]\w+ (cdi_\w+)\(", header, re.M))
-    expect("the number of functions", 8, len(declared))
-    exported = {line.split()[-1] for line in output("nm", "-D", "--defined-only", SHARED).splitlines()}
-    expect("the functions", declared, {name for name in exported if not name.startswith("_")})
+def check_functions(header):
+    """The header declares the functions that were agreed, and the library exports them and no other."""
+    declared = [re.sub(r"\s+", " ", text) for text in re.findall(r"^[a-z]\w+ cdi_\w+\([^;]*;", header, re.M)]
+    expect("the functions", sorted(FUNCTIONS.strip().splitlines()), sorted(declared))
+    lines = output("nm", "-D", "--defined-only", SHARED).splitlines()
+    exported = {line.split()[-1] for line in lines}
+    expect("what is exported", set(SIGNATURES), {name for name in exported if not name.startswith("_")})
     return len(declared)
+
+
+def layout_claims():
+    """What the tests' own structs say of the header's: C that is compiled where all of it holds."""
+    claims = []
+    for name, struct in STRUCTS.items():
+        claims.append(f"sizeof({name}) == {ctypes.sizeof(struct)}")
+        for field, kind in struct._fields_:
+            claims.append(f"offsetof({name}, {field}) == {getattr(struct, field).offset}")
+            claims.append(f"sizeof((({name} *)0)->{field}) == {ctypes.sizeof(kind)}")
+    return claims
+
+
+def check_layout(folder, header):
+    """The header's structs have these fields in this order, and no others."""
+    claims = layout_claims()
+    source = f"{folder}/layout.c"
+    with open(source, "w", encoding="utf-8") as file:
+        file.write("#include <cdi.h>\n" + "".join(f'_Static_assert({claim}, "{claim}");\n' for claim in claims))
+    output("gcc", *STRICT, f"-I{HEADER.parent}", "-fsyntax-only", source)
+    asserted = {re.sub(r"^CDI_HOLDS\(|\);$", "", line) for line in header.splitlines() if line.startswith("CDI_HOLDS(")}
+    wanted = {claim for claim in claims if "->" not in claim} | {"sizeof(size_t) == 8"}
+    expect("the header's assertions", wanted, asserted)
+    return len(claims)
 
 
 def package_flags():
     """The flags that pkg-config reads from cdi.pc, as words."""
     values = {"pcfiledir": str(PACKAGE.parent)}
-    text = PACKAGE.read_text(encoding="utf-8")
-    for name, value in re.findall(r"^(\w+)(?:=|: )(.*)$", text, re.M):
-        values[name] = re.sub(r"\$\{(\w+)\}", lambda found: values[found.group(1)], value)
-    return values["Cflags"].split() + values["Libs"].split()
+    lines = re.findall(r"^(\w+)(=|: )(.*)$", PACKAGE.read_text(encoding="utf-8"), re.M)
+
+    def filled(text):
+        return re.sub(r"\$\{(\w+)\}", lambda found: values[found.group(1)], text)
+
+    for name, sign, value in lines:
+        if sign == "=":
+            values[name] = filled(value)
+    told = {name: value for name, sign, value in lines if sign != "="}
+    return [filled(word) for name in ("Cflags", "Libs") for word in told[name].split()]
 
 
 def check_controller(folder):
@@ -131,6 +189,15 @@ def check_controller(folder):
     expect("the controller's lines", PRINTED, output(shared, env={"LD_LIBRARY_PATH": str(SHARED.parent)}))
 
 
+def check_readme():
+    """The README's commands for C, as they stand there, print the same."""
+    readme = (library.ROOT / "README.md").read_text(encoding="utf-8")
+    shown = readme.partition("## Using it from C")[2].partition("`include/cdi.h`")[0]
+    commands = [line.strip() for line in shown.splitlines() if line.startswith("    ")]
+    expect("the README's commands", ["./sdk", "gcc", "target/controller"], [line.split()[0] for line in commands])
+    expect("what they print", "target/sdk is up to date\n" + PRINTED, output("sh", "-ec", "\n".join(commands)))
+
+
 def main():
     library.sdk()
     expect("./sdk once more", "target/sdk is up to date\n", output("./sdk"))
@@ -138,10 +205,13 @@ def main():
     expect("the header", (library.ROOT / "include" / "cdi.h").read_text(encoding="utf-8"), header)
     numbers = check_numbers(header)
     check_items(header)
-    functions = check_exports(header)
+    functions = check_functions(header)
     with tempfile.TemporaryDirectory() as folder:
+        claims = check_layout(folder, header)
         check_controller(folder)
-    print(f"{functions} functions and {numbers} numbers of cdi.h, and the controller's {PRINTED.count(chr(10))} lines")
+    check_readme()
+    lines = PRINTED.count("\n")
+    print(f"{functions} functions, {numbers} numbers and {claims} facts of layout of cdi.h, and the controller's {lines} lines")
 
 
 try:
