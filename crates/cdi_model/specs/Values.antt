@@ -1,5 +1,5 @@
 -- Document 01, "Items", as the reference model has it: a cell holds a list of bytes. The module's code knows nothing of this text.
-use Prim.Native.Nat.{ℕ, zero}
+use Prim.Native.Nat.{ℕ}
 use mathlib.Core.List.{List, [], _∷_}
 use mathlib.Core.Bool.{Bool, true, false, cond, not, _&&_, _||_}
 use lib.Bits.{bitAnd, bitOr}
