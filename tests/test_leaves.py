@@ -1,5 +1,6 @@
 #!/usr/bin/env python3
-"""Compares the project's leaf functions with reference.py, call by call.
+"""Compares what no entry of the C library shows with reference.py, call by call: lines of hex, and
+an analog input's offset as a number.
 
 Builds the crate `leaf_probe` as a shared library and calls its functions over the examples of
 document 01, over edges and over random inputs of a fixed seed. Every buffer that is handed over
@@ -15,7 +16,7 @@ sys.dont_write_bytecode = True  # leaves no files beside the tests
 
 import reference
 from library import ANALOG_INPUT, BYTE, POINTER, SIZE, Calls, Problem, build, struct
-from payloads import PAYLOAD_ORDER, WRAPS, edge_payloads, frame, random_payload
+from payloads import WRAPS
 
 SEED = 20240001
 
@@ -23,13 +24,6 @@ SEED = 20240001
 
 # Each function's result and arguments.
 SIGNATURES = {
-    "probe_frame_refusal": (BYTE, (POINTER, SIZE)),
-    "probe_frame_span": (struct(start=SIZE, length=SIZE), (POINTER, SIZE)),
-    "probe_payload_refusal": (BYTE, (POINTER, SIZE)),
-    "probe_find_item": (struct(served=BYTE, length=BYTE, indexed=BYTE, marks=BYTE), (BYTE,)),
-    "probe_accepts": (BYTE, (BYTE,) * 6),
-    "probe_is_slot_index": (BYTE, (BYTE,)),
-    "probe_is_input_number": (BYTE, (BYTE,)),
     "probe_signed_offset": (ctypes.c_int16, (ANALOG_INPUT,)),
     "probe_read_line": (struct(outcome=BYTE, length=SIZE), (POINTER, SIZE, POINTER, SIZE)),
     "probe_write_block": (SIZE, (POINTER, SIZE, POINTER, SIZE)),
@@ -41,48 +35,6 @@ SIGNATURES = {
 class Comparison(Calls):
     """A method for each function of the library: it calls the library and the reference, compares
     what came, and returns it."""
-
-    def frame(self, block):
-        refusal, start, length = reference.read_frame(block)
-        address = self.input.give(block)
-        came = self.library.probe_frame_refusal(address, len(block))
-        self.called("probe_frame_refusal", refusal, came, block=block)
-        span = self.library.probe_frame_span(address, len(block))
-        came = span.start, span.length
-        self.called("probe_frame_span", (start, length), came, block=block)
-        return refusal, start, length
-
-    def payload(self, payload):
-        came = self.library.probe_payload_refusal(self.input.give(payload), len(payload))
-        expected = reference.validate_payload(payload)
-        return self.called("probe_payload_refusal", expected, came, payload=payload)
-
-    def item(self, code):
-        expected = 0, 0, 0, 0
-        if code in reference.ITEMS:
-            item = reference.ITEMS[code]
-            marks = sum({"R": 1, "N": 2, "W": 4, "P": 8}[letter] for letter in item.commands)
-            expected = 1, item.value_bytes, int(item.indexed), marks
-        result = self.library.probe_find_item(code)
-        came = result.served, result.length, result.indexed, result.marks
-        return self.called("probe_find_item", expected, came, item=bytes([code]))
-
-    def accepts(self, item, value):
-        came = self.library.probe_accepts(item, *value.ljust(5, b"\x00"))
-        expected = int(reference.accepts(item, value))
-        return self.called("probe_accepts", expected, came, item=bytes([item]), value=value)
-
-    def is_slot_index(self, index):
-        came = self.library.probe_is_slot_index(index)
-        return self.called(
-            "probe_is_slot_index", int(reference.is_slot_index(index)), came, index=index
-        )
-
-    def is_input_number(self, number):
-        came = self.library.probe_is_input_number(number)
-        return self.called(
-            "probe_is_input_number", int(reference.is_input_number(number)), came, number=number
-        )
 
     def signed_offset(self, row):
         came = self.library.probe_signed_offset(ANALOG_INPUT.from_buffer_copy(row))
@@ -128,39 +80,38 @@ class Comparison(Calls):
 
 # ---- Examples of document 01 -----------------------------------------------------------------
 
-# The block examples, line by line, with the refusal that the frame or else the payload gives.
+# The blocks among the examples, and of the replay program's input.
 BLOCK_EXAMPLES = (
-    ("80 55 82 01 15", 0),
-    ("80 FF FF 55 82 01 15", 0),
-    ("80" + 16 * " FF" + " 55 82 01 15", 0),
-    ("80" + 17 * " FF" + " 55 82 01 15", 4),
-    ("80 55 83 04 15 06", 0),
-    ("80 55 82 03 15", 0),
-    ("80 55 83 02 15 07", 12),
-    ("80 55 82 03 25", 10),
-    ("80 55 83 02 13 EC", 0),
-    ("80 55 83 02 13 EB", 12),
-    ("80 55 83 02 13 0A", 0),
-    ("80 55 83 02 13 0B", 12),
-    ("80 55 81 82", 0),
-    ("80 55 81 01", 8),
-    ("80 55 88 04 18 27 01 02 03 04 05", 0),
-    ("80 55 88 04 18 28 01 02 03 04 05", 11),
-    ("80 55 88 04 18 27 00 00 00 00 01", 12),
-    ("80 55 83 01 16 02", 0),
-    ("80 55 83 01 16 00", 11),
-    ("80 55 83 01 16 03", 11),
-    ("80 55 82 01 18", 8),
-    ("", 3),
-    ("80", 3),
-    ("81", 4),
-    ("80 55 80", 5),
-    ("80 55 82 01", 3),
-    ("80 55 82 01 15 00", 6),
-    ("80 55 82 05 15", 7),
-    ("80 55 82 01 17", 9),
-    # the replay program's input
-    ("80 55 83 02 15 03", 0),
+    "80 55 82 01 15",
+    "80 FF FF 55 82 01 15",
+    "80" + 16 * " FF" + " 55 82 01 15",
+    "80" + 17 * " FF" + " 55 82 01 15",
+    "80 55 83 04 15 06",
+    "80 55 82 03 15",
+    "80 55 83 02 15 07",
+    "80 55 82 03 25",
+    "80 55 83 02 13 EC",
+    "80 55 83 02 13 EB",
+    "80 55 83 02 13 0A",
+    "80 55 83 02 13 0B",
+    "80 55 81 82",
+    "80 55 81 01",
+    "80 55 88 04 18 27 01 02 03 04 05",
+    "80 55 88 04 18 28 01 02 03 04 05",
+    "80 55 88 04 18 27 00 00 00 00 01",
+    "80 55 83 01 16 02",
+    "80 55 83 01 16 00",
+    "80 55 83 01 16 03",
+    "80 55 82 01 18",
+    "",
+    "80",
+    "81",
+    "80 55 80",
+    "80 55 82 01",
+    "80 55 82 01 15 00",
+    "80 55 82 05 15",
+    "80 55 82 01 17",
+    "80 55 83 02 15 03",
 )
 
 # The responses among the examples, as they are printed.
@@ -175,28 +126,9 @@ PRINTED_EXAMPLES = (
 REFUSED_EXAMPLES = ((12, "refused 12\n"), (10, "refused 10\n"))
 
 
-def check_examples(compare, rng):
-    """The paper's examples: the reference and the library give what the paper gives."""
-    both = (
-        (reference.read_frame, reference.validate_payload),
-        (compare.frame, compare.payload),
-    )
-    for text, expected in BLOCK_EXAMPLES:
-        block = bytes.fromhex(text)
-        for read_frame, validate_payload in both:
-            refusal, start, length = read_frame(block)
-            if refusal == 0:
-                refusal = validate_payload(block[start : start + length])
-            compare.same("an example of document 01", expected, refusal, block=block)
-    for text, expected in PAYLOAD_ORDER:
-        payload = bytes.fromhex(text)
-        came = compare.payload(payload)
-        compare.same("the order of refusals", expected, came, payload=payload)
-
-
 def check_example_lines(compare, rng):
     """The paper's example lines: read as the bytes they show, and printed as they stand."""
-    for text in [text for text, _ in BLOCK_EXAMPLES] + list(PRINTED_EXAMPLES):
+    for text in BLOCK_EXAMPLES + PRINTED_EXAMPLES:
         line, block = text.encode("ascii"), bytes.fromhex(text)
         outcome, length, buffer = compare.read_line(line, rng.randbytes(40))
         compare.same("a line read", (0, block), (outcome, buffer[:length]), line=line)
@@ -207,112 +139,6 @@ def check_example_lines(compare, rng):
         compare.same("a line printed", text.encode("ascii"), out[:length], refusal=refusal)
     length, out = compare.write_not_hex(rng.randbytes(40))
     compare.same("a line printed", b"not hex\n", out[:length])
-
-
-# ---- Frame -----------------------------------------------------------------------------------
-
-
-def check_frame_lengths(compare, rng):
-    """Each wake count and length byte, with no payload, one byte too few, right, one too many."""
-    for wake, length_byte in itertools.product(range(19), range(256)):
-        start = b"\x80" + wake * b"\xff" + b"\x55" + bytes([length_byte])
-        length = length_byte % 128
-        for size in {0, max(length - 1, 0), length, length + 1}:
-            compare.frame(start + rng.randbytes(size))
-
-
-def check_frame_damage(compare, rng):
-    """Frames that are cut, lengthened, or changed at one place by each byte."""
-    frames = [
-        frame(wake, payload)
-        for wake in (0, 1, 2, 15, 16, 17)
-        for payload in (b"\x82", b"\x01\x15", b"\x04\x18\x27\x01\x02\x03\x04\x05")
-    ]
-    for whole in frames + [frame(0, rng.randbytes(127)), frame(16, rng.randbytes(127))]:
-        compare.frame(whole)
-        for size in (1, 2, 3, *WRAPS):
-            compare.frame(whole + bytes(size))
-        for place in range(len(whole)):
-            compare.frame(whole[:place])
-            compare.frame(whole[:place] + whole[place + 1 :])
-            for byte in (b"\x00", b"\x55", b"\x80", b"\x82", b"\xff"):
-                compare.frame(whole[:place] + byte + whole[place:])
-    for whole in frames[3:6] + frames[12:15]:
-        for place, byte in itertools.product(range(len(whole)), range(256)):
-            compare.frame(whole[:place] + bytes([byte]) + whole[place + 1 :])
-
-
-def check_frame_random(compare, rng):
-    likely = b"\x80\xff\xff\xff\x55\x55\x81\x82\x83\x88"
-    for _ in range(8000):
-        compare.frame(rng.randbytes(rng.randrange(30)))
-        compare.frame(b"\x80" + bytes(rng.choices(likely, k=rng.randrange(12))))
-        start = b"\x80" + rng.randrange(4) * b"\xff" + b"\x55"
-        compare.frame(start + bytes([0x80 + rng.randrange(6)]) + rng.randbytes(rng.randrange(6)))
-
-
-# ---- Items -----------------------------------------------------------------------------------
-
-
-def check_items(compare, rng):
-    for byte in range(256):
-        compare.item(byte)
-        compare.is_slot_index(byte)
-        compare.is_input_number(byte)
-
-
-def check_values(compare, rng):
-    """Every value of the one-byte items, and random values of all that have at most five bytes."""
-    for item in reference.ITEMS.values():
-        if item.value_bytes == 1:
-            for byte in range(256):
-                compare.accepts(item.code, bytes([byte]))
-        elif item.value_bytes <= 5:
-            for _ in range(500):
-                compare.accepts(item.code, rng.randbytes(item.value_bytes))
-
-
-def check_analog_input_values(compare, rng):
-    offsets = (b"\x00\x00", b"\x7f\xff", b"\x80\x00", b"\xff\xff")
-    for parts in itertools.product(range(256), range(18), range(3)):
-        compare.accepts(0x16, bytes(parts) + rng.choice(offsets))
-    for byte in range(256):
-        compare.accepts(0x16, bytes([0x04, byte, 0x00]) + rng.randbytes(2))
-        compare.accepts(0x16, bytes([0xFE, 0x10, byte]) + rng.randbytes(2))
-        compare.accepts(0x16, bytes([0xFF, 0x01, 0x01, byte, 0xFF - byte]))
-
-
-def check_slot_values(compare, rng):
-    """The zero address, all ones, and addresses with one bit set, with each mask."""
-    addresses = [bytes(4), b"\xff\xff\xff\xff"]
-    addresses += [(1 << bit).to_bytes(4, "big") for bit in range(32)]
-    for address, mask in itertools.product(addresses, range(256)):
-        compare.accepts(0x18, address + bytes([mask]))
-
-
-# ---- Payloads --------------------------------------------------------------------------------
-
-
-def check_short_payloads(compare, rng):
-    """Every payload of no, one and two bytes."""
-    for size in range(3):
-        for payload in itertools.product(range(256), repeat=size):
-            compare.payload(bytes(payload))
-
-
-def check_edge_payloads(compare, rng):
-    for payload in edge_payloads():
-        compare.payload(payload)
-
-
-def check_random_payloads(compare, rng):
-    for _ in range(25_000):
-        compare.payload(random_payload(rng))
-    for _ in range(200):
-        payload = random_payload(rng)
-        for wrap in WRAPS:
-            compare.payload(payload + bytes(wrap))
-        compare.payload(rng.randbytes(rng.randrange(24, 300)))
 
 
 # ---- Offsets of analog inputs ----------------------------------------------------------------
@@ -416,18 +242,7 @@ def check_written_words(compare, rng):
 # ---- The run ---------------------------------------------------------------------------------
 
 CHECKS = (
-    ("examples", check_examples),
     ("example lines", check_example_lines),
-    ("frames by wake count and length byte", check_frame_lengths),
-    ("damaged frames", check_frame_damage),
-    ("random blocks", check_frame_random),
-    ("item list and indexes", check_items),
-    ("values", check_values),
-    ("values of analog inputs", check_analog_input_values),
-    ("values of slots", check_slot_values),
-    ("payloads of at most two bytes", check_short_payloads),
-    ("payloads by command, item, length, index, value", check_edge_payloads),
-    ("random payloads", check_random_payloads),
     ("offsets of analog inputs", check_offsets),
     ("lines of random blocks", check_lines_of_blocks),
     ("lines by buffer size", check_line_buffers),
@@ -441,7 +256,7 @@ CHECKS = (
 def main():
     compare = Comparison(build("leaf_probe", SIGNATURES))
     compare.run(CHECKS, SEED)
-    print(f"{compare.calls} calls agreed")
+    print(f"{compare.calls:,} calls agree")
 
 
 if __name__ == "__main__":

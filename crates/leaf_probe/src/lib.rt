@@ -1,39 +1,12 @@
-// Functions that no C entry calls alone, behind the C ABI for the tests that compare them with an independent implementation. It adds
+// Functions that no C entry shows, behind the C ABI for the tests that compare them with an independent implementation. It adds
 // nothing: each function hands its arguments on and turns an enum into numbers.
 ghost use mathlib.Core.Path.{_≡_};
-ghost use mathlib.Core.List.{[], _∷_};
 ghost use lib.ListN.{length};
-ghost use Rattle.refusal.specs.Refusal.{refusalOf};
-ghost use Rattle.cdi_item.specs.Items.{itemOf, isSlotIndex, isInputNumber};
-ghost use Rattle.cdi_item.specs.Values.{acceptedValue};
-ghost use Rattle.cdi_frame.specs.Frame.{readFrame, wakeLimit};
-ghost use Rattle.cdi_command.specs.Command.{validatePayload};
 ghost use Rattle.cdi_state.specs.State.{inputOffset};
 ghost use Rattle.hex_text.specs.Hex.{hexLine, lineAnswer, lineWritten, hexText, refusedText, notHexText, printed, lengthIn, writtenIn};
-ghost use Rattle.leaf_probe.specs.Probe.{bit, spanProbe, itemProbe, lineProbe};
-use cdi_command::Validated;
-use cdi_frame::Frame;
-use cdi_item::Lookup;
-use cdi_item::Value;
+ghost use Rattle.leaf_probe.specs.Probe.{lineProbe};
 use cdi_state::AnalogInput;
 use hex_text::HexLine;
-use refusal::NONE;
-
-// Where a payload lies in a block; both 0 on a refusal.
-#[repr(C)]
-pub struct SpanProbe {
-    pub start: usize,
-    pub length: usize,
-}
-
-// Whether an item is served, and what the item list says of it; all 0 where it is not.
-#[repr(C)]
-pub struct ItemProbe {
-    pub served: u8,
-    pub length: u8,
-    pub indexed: u8,
-    pub marks: u8,
-}
 
 // The answers to a line: a block, ...
 const BLOCK: u8 = 0;
@@ -47,113 +20,6 @@ const NO_ROOM: u8 = 2;
 pub struct LineProbe {
     pub answer: u8,
     pub length: usize,
-}
-
-// 1 for true, 0 for false.
-fn bit(b: bool) -> u8
-    ensures { λ r. ⌜ r ≡ bit b ⌝ }
-{
-    if b { 1 } else { 0 }
-}
-
-// The number of the refusal of a block as a frame, 0 where it is one.
-#[no_mangle]
-pub extern "C" fn probe_frame_refusal(block: &[u8]) -> u8
-    ensures { λ r. ⌜ r ≡ refusalOf (readFrame wakeLimit (now (block .entry))) ⌝ }
-{
-    match cdi_frame::read_frame(block) {
-        Frame::Payload(_) => NONE,
-        Frame::Refused(number) => number,
-    }
-}
-
-// Where the payload lies in a block that is one frame.
-#[no_mangle]
-pub extern "C" fn probe_frame_span(block: &[u8]) -> SpanProbe
-    ensures { λ r. ⌜ r ≡ spanProbe (readFrame wakeLimit (now (block .entry))) ⌝ }
-{
-    match cdi_frame::read_frame(block) {
-        Frame::Payload(span) => SpanProbe {
-            start: span.start,
-            length: span.length,
-        },
-        Frame::Refused(_) => SpanProbe {
-            start: 0,
-            length: 0,
-        },
-    }
-}
-
-// The number of the refusal of a payload as a command, 0 where it is one.
-#[no_mangle]
-pub extern "C" fn probe_payload_refusal(payload: &[u8]) -> u8
-    ensures { λ r. ⌜ r ≡ refusalOf (validatePayload (now (payload .entry))) ⌝ }
-{
-    match cdi_command::validate_payload(payload) {
-        Validated::Accepted(_) => NONE,
-        Validated::Refused(number) => number,
-    }
-}
-
-// What the item list has under a code.
-#[no_mangle]
-pub extern "C" fn probe_find_item(code: u8) -> ItemProbe
-    ensures { λ r. ⌜ r ≡ itemProbe (itemOf code) ⌝ }
-{
-    match cdi_item::find_item(code) {
-        Lookup::Found(item) => ItemProbe {
-            served: 1,
-            length: item.length,
-            indexed: bit(item.indexed),
-            marks: item.marks,
-        },
-        Lookup::NotServed => ItemProbe {
-            served: 0,
-            length: 0,
-            indexed: 0,
-            marks: 0,
-        },
-    }
-}
-
-// Whether an item accepts a value, whose bytes past its end are 0.
-#[no_mangle]
-pub extern "C" fn probe_accepts(
-    item: u8,
-    byte0: u8,
-    byte1: u8,
-    byte2: u8,
-    byte3: u8,
-    byte4: u8,
-) -> u8
-    ensures { λ r. ⌜ r ≡ bit (acceptedValue item (byte0 ∷ byte1 ∷ byte2 ∷ byte3 ∷ byte4 ∷ [])) ⌝ }
-{
-    bit(cdi_item::accepts(
-        item,
-        Value {
-            byte0,
-            byte1,
-            byte2,
-            byte3,
-            byte4,
-        },
-    ))
-}
-
-// Whether a byte is the number of a slot.
-#[no_mangle]
-pub extern "C" fn probe_is_slot_index(byte: u8) -> u8
-    ensures { λ r. ⌜ r ≡ bit (isSlotIndex byte) ⌝ }
-{
-    bit(cdi_item::is_slot_index(byte))
-}
-
-// Whether a byte is the number of an input.
-#[no_mangle]
-pub extern "C" fn probe_is_input_number(byte: u8) -> u8
-    ensures { λ r. ⌜ r ≡ bit (isInputNumber byte) ⌝ }
-{
-    bit(cdi_item::is_input_number(byte))
 }
 
 // The offset of an input as a signed number.
