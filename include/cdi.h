@@ -85,6 +85,11 @@ enum {
     CDI_COMMAND_ERASE_ALL = 0x82     /* empties all slots */
 };
 
+/*
+ * The defaults are 0x00, but 0x06 for the control source and 0xFF 0x01 0x00 0x00 0x00 for each
+ * analog input.
+ */
+
 /* The first byte of a response's payload. */
 enum {
     CDI_RESPONSE_ACK = 0xC0,      /* to all but reads: 0x00 and the command's payload follow */
