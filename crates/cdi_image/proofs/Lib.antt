@@ -1,6 +1,7 @@
 pub mod Cells
 pub mod Contents
 pub mod Cut
+pub mod Examples
 pub mod Fit
 pub mod Kept
 pub mod Laws
