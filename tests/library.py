@@ -9,6 +9,7 @@ import pathlib
 import random
 import shutil
 import subprocess
+import sys
 import tempfile
 
 ROOT = pathlib.Path(__file__).resolve().parent.parent
@@ -16,6 +17,14 @@ ROOT = pathlib.Path(__file__).resolve().parent.parent
 
 class Problem(Exception):
     """The library can't be built, or it differs from the reference."""
+
+
+def run_test(name, main):
+    """Runs a test; a Problem ends it with exit status 1 and what it says."""
+    try:
+        main()
+    except Problem as problem:
+        sys.exit(f"{name}: {problem}")
 
 
 # ---- Building --------------------------------------------------------------------------------

@@ -9,7 +9,7 @@ import sys
 sys.dont_write_bytecode = True  # leaves no files beside the tests
 
 import reference
-from library import Problem, load, sdk
+from library import load, run_test, sdk
 from payloads import WRAPS, edge_payloads, frame, random_payload
 from reference import FACTORY_STATE, PROGRAM, READ, WRITE
 from test_entries import FILLER, SIGNATURES, Comparison
@@ -162,7 +162,4 @@ def main():
 
 
 if __name__ == "__main__":
-    try:
-        main()
-    except Problem as problem:
-        sys.exit(f"blocks: {problem}")
+    run_test("blocks", main)

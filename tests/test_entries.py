@@ -16,7 +16,7 @@ import sys
 sys.dont_write_bytecode = True  # leaves no files beside the tests
 
 import reference
-from library import BYTE, POINTER, SIZE, Calls, Memory, Problem, load, sdk, struct
+from library import BYTE, POINTER, SIZE, Calls, Memory, Problem, load, run_test, sdk, struct
 from payloads import (
     PAYLOAD_ORDER,
     WRAPS,
@@ -1040,7 +1040,4 @@ def main():
 
 
 if __name__ == "__main__":
-    try:
-        main()
-    except Problem as problem:
-        sys.exit(f"entries: {problem}")
+    run_test("entries", main)

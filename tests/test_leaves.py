@@ -15,7 +15,7 @@ import sys
 sys.dont_write_bytecode = True  # leaves no files beside the tests
 
 import reference
-from library import ANALOG_INPUT, BYTE, POINTER, SIZE, Calls, Problem, build, struct
+from library import ANALOG_INPUT, BYTE, POINTER, SIZE, Calls, build, run_test, struct
 from payloads import WRAPS
 
 SEED = 20240001
@@ -260,7 +260,4 @@ def main():
 
 
 if __name__ == "__main__":
-    try:
-        main()
-    except Problem as problem:
-        sys.exit(f"leaves: {problem}")
+    run_test("leaves", main)

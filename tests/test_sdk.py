@@ -214,8 +214,5 @@ def main():
     print(f"{functions} functions, {numbers} numbers and {claims} facts of layout of cdi.h, and the controller's {lines} lines")
 
 
-try:
-    main()
-except library.Problem as problem:
-    print(problem)
-    sys.exit(1)
+if __name__ == "__main__":
+    library.run_test("sdk", main)

@@ -36,6 +36,7 @@ pub(crate) fn has_version(image: &[u8]) -> bool
     (image[VERSION_AT] == VERSION[0]) & (image[VERSION_AT + 1] == VERSION[1])
 }
 
+// Parts of an image as arrays, rows and settings.
 fn name_in(source: &[u8]) -> [u8; 17]
     requires { ⌜ length (now source) ≡ 17 ⌝ }
     ensures { λ r. ⌜ r ≡ now (source .entry) ⌝ }

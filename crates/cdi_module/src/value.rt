@@ -161,6 +161,7 @@ pub(crate) fn put_plain(state: ModuleState, settings: Settings, item: u8, out: &
     put_byte(setting_byte(settings, item), out)
 }
 
+// Writes the five bytes of a row.
 fn put_bytes(row: [u8; 5], out: &mut [u8]) -> usize
     requires { ⌜ 5 ≤ length (now out) ⌝ }
     ensures { λ r. ⌜ (r ≡ 5) × ((r ≡ length row) × (now (out .exit) ≡ written (now (out .entry)) row)) ⌝ }

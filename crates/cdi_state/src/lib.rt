@@ -138,6 +138,7 @@ fn signed_pair(high: u8, low: u8) -> i16
 // The bytes of a stored name.
 pub const NAME_LENGTH: usize = 17;
 
+// The slots of a module.
 pub const SLOT_COUNT: usize = 40;
 
 // What both RSSI bytes hold before a signal was measured.
