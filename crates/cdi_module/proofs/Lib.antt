@@ -9,3 +9,4 @@ pub mod Follows
 pub mod Theorem
 pub mod Within
 pub mod Factory
+pub mod Told

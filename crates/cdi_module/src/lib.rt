@@ -6,10 +6,9 @@ mod value;
 ghost use mathlib.Core.Path.{_≡_};
 ghost use Prim.Native.Nat.{_≤_};
 ghost use lib.ListN.{length};
-ghost use Rattle.refusal.specs.Refusal.{outcome};
 ghost use Rattle.cdi_command.specs.Command.{validatePayload};
 ghost use Rattle.cdi_model.specs.Step.{command, powerUp, poweredUp, responded};
-ghost use Rattle.cdi_module.specs.Module.{responseMax, decided, stateBy, blockResult, step, resultOf};
+ghost use Rattle.cdi_module.specs.Module.{responseMax, decided, decideIf, decide, refusedAs, Responds, step, resultOf};
 use cdi_command::Validated;
 use cdi_frame::Frame;
 use cdi_state::ModuleState;
@@ -35,32 +34,37 @@ pub struct PowerUp {
     pub refusal: u8,
 }
 
-// A refusal leaves the state and writes nothing.
-fn refused(state: ModuleState, number: u8) -> Execution
-    ensures { λ r. ⌜ (r .state ≡ state) × (r .outcome ≡ outcome number 0) ⌝ }
+// What is decided on a block, its payload as it was validated, whether that stores anything, and what came of it.
+pub struct Decided {
+    pub validated: Validated,
+    pub stores: bool,
+    pub outcome: Outcome,
+}
+
+// A refusal writes nothing.
+fn refused(number: u8) -> Decided
+    ensures { λ r. ⌜ r ≡ refusedAs number ⌝ }
 {
-    Execution {
-        state,
-        outcome: Outcome {
-            refusal: number,
-            length: 0,
-        },
+    Decided {
+        validated: Validated::Refused(number),
+        stores: false,
+        outcome: refusal::refused(number),
     }
 }
 
-// Executes a payload; the response is written from the state as the command finds it.
-fn execute_payload(state: ModuleState, payload: &[u8], response: &mut [u8]) -> Execution
+// Responds to a payload, by the state as the command finds it.
+fn respond_payload(state: ModuleState, payload: &[u8], response: &mut [u8]) -> Decided
     requires { ⌜ responseMax ≤ length (now response) ⌝ }
-    ensures { λ r. ⌜ (r .state ≡ stateBy state (decided (validatePayload (now (payload .entry))))) × (responded (r .outcome .refusal) (r .outcome .length) (now (response .exit)) ≡ blockResult state (now (response .entry)) (decided (validatePayload (now (payload .entry))))) ⌝ }
+    ensures { λ r. ⌜ Responds state (decided (validatePayload (now (payload .entry)))) (now (response .entry)) (now (response .exit)) r ⌝ }
 {
     let validated = cdi_command::validate_payload(payload);
     match validated {
-        Validated::Refused(number) => refused(state, number),
+        Validated::Refused(number) => refused(number),
         Validated::Accepted(command) => {
             let length = response::write_response(state, command, payload, response);
-            let after = cdi_store::store(state, command);
-            Execution {
-                state: after,
+            Decided {
+                validated: Validated::Accepted(command),
+                stores: cdi_store::stores(Validated::Accepted(command)),
                 outcome: Outcome {
                     refusal: NONE,
                     length,
@@ -70,25 +74,49 @@ fn execute_payload(state: ModuleState, payload: &[u8], response: &mut [u8]) -> E
     }
 }
 
+// Decides on a command block and writes its response over the front of `response`, for a state of which it is known whether it is
+// valid. Nothing is stored yet.
+pub fn respond_if(valid: bool, state: ModuleState, block: &[u8], response: &mut [u8]) -> Decided
+    ensures { λ r. ⌜ Responds state (decideIf valid (now (block .entry)) (now (response .entry))) (now (response .entry)) (now (response .exit)) r ⌝ }
+{
+    if response.len() < RESPONSE_MAX {
+        return refused(RESPONSE_BUFFER_SHORT);
+    }
+    if !valid {
+        return refused(INVALID);
+    }
+    let frame = cdi_frame::read_frame(block);
+    match frame {
+        Frame::Refused(number) => refused(number),
+        Frame::Payload(span) => {
+            let start = span.start;
+            let end = start + span.length;
+            respond_payload(state, &block[start..end], response)
+        }
+    }
+}
+
+// Decides on a command block and writes its response over the front of `response`; the bytes behind it stay. A refusal changes no
+// byte of it. `cdi_store::store` then gives the state after the block.
+pub fn respond(state: ModuleState, block: &[u8], response: &mut [u8]) -> Decided
+    ensures { λ r. ⌜ Responds state (decide state (command (now (block .entry)) (now (response .entry)))) (now (response .entry)) (now (response .exit)) r ⌝ }
+{
+    let valid = state.is_valid();
+    respond_if(valid, state, block, response)
+}
+
 // Executes one command block on a state. The response is written over the front of `response` and the bytes behind it stay; a
 // refusal changes no byte of it, and nothing in the state.
 pub fn execute(state: ModuleState, block: &[u8], response: &mut [u8]) -> Execution
     ensures { λ r. ⌜ (r .state ≡ step state (command (now (block .entry)) (now (response .entry)))) × (responded (r .outcome .refusal) (r .outcome .length) (now (response .exit)) ≡ resultOf state (command (now (block .entry)) (now (response .entry)))) ⌝ }
 {
-    if response.len() < RESPONSE_MAX {
-        return refused(state, RESPONSE_BUFFER_SHORT);
-    }
-    if !state.is_valid() {
-        return refused(state, INVALID);
-    }
-    let frame = cdi_frame::read_frame(block);
-    match frame {
-        Frame::Refused(number) => refused(state, number),
-        Frame::Payload(span) => {
-            let start = span.start;
-            let end = start + span.length;
-            execute_payload(state, &block[start..end], response)
-        }
+    let decided = respond(state, block, response);
+    let validated = decided.validated;
+    let outcome = decided.outcome;
+    let after = cdi_store::store(state, validated);
+    Execution {
+        state: after,
+        outcome,
     }
 }
 

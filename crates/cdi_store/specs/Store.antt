@@ -1,9 +1,10 @@
 -- Document 01, "Items": the state after an accepted command, and after a power-up.
 use Prim.Native.Nat.{ℕ, zero, suc}
 use mathlib.Core.List.{List, [], _∷_}
-use mathlib.Core.Bool.{cond}
+use mathlib.Core.Bool.{Bool, true, false, cond}
 use lib.Dec.{eqb}
 use lib.ListN.{getD, set, replicate}
+use Rattle.refusal.specs.Refusal.{Result, accepted, refused}
 use Rattle.cdi_item.specs.declared.Value.{Value}
 use Rattle.cdi_item.specs.Items as item
 use Rattle.cdi_command.specs.declared.Index.{Index}
@@ -14,6 +15,8 @@ use Rattle.cdi_state.specs.declared.AnalogInput.{AnalogInput}
 use Rattle.cdi_state.specs.declared.Slot.{Slot}
 use Rattle.cdi_state.specs.declared.Settings.{Settings}
 use Rattle.cdi_state.specs.declared.ModuleState.{ModuleState}
+use Rattle.cdi_store.specs.declared.Setting.{Setting}
+use Rattle.cdi_store.specs.declared.Setting.the-variants.{Byte, Row}
 use Rattle.cdi_state.specs.State.{defaultSettings, emptySlot, noRssi}
 
 -- ---- the settings of one byte as a list, in the order of their items: 11 to 15, 25
@@ -117,6 +120,11 @@ abbrev pub inputStored : Settings → ℕ → AnalogInput → Settings
 inputStored t zero x = t
 inputStored t (suc i) x = withInputs t (set (t .«analog_inputs») i x)
 
+-- a value in the setting that a byte or a row has
+abbrev pub valueStored : Settings → Setting → Value → Settings
+valueStored t (Byte code) v = settingStored t code (v .byte0)
+valueStored t (Row n) v = inputStored t (n .0) (inputFrom v)
+
 abbrev pub addressFrom : Value → List ℕ
 addressFrom v = v .byte0 ∷ v .byte1 ∷ v .byte2 ∷ v .byte3 ∷ []
 
@@ -163,6 +171,28 @@ stateAfter s (Program x v) = plainProgrammed s (x .code) v
 stateAfter s (ProgramIndexed x i v) = rowProgrammed s i v
 stateAfter s SetDefault = defaulted s
 stateAfter s EraseAll = erased s
+
+-- all commands but the reads store
+abbrev pub stores : Command → Bool
+stores (Read x) = false
+stores (ReadIndexed x i) = false
+stores (ReadNv x) = false
+stores (ReadNvIndexed x i) = false
+stores (Write x v) = true
+stores (WriteIndexed x i v) = true
+stores (Program x v) = true
+stores (ProgramIndexed x i v) = true
+stores SetDefault = true
+stores EraseAll = true
+
+-- a payload that was refused stores nothing
+abbrev pub storesFor : Result Command → Bool
+storesFor (accepted c) = stores c
+storesFor (refused n) = false
+
+abbrev pub stateFor : ModuleState → Result Command → ModuleState
+stateFor s (accepted c) = stateAfter s c
+stateFor s (refused n) = s
 
 -- a power-up takes the working settings from the non-volatile ones, and clears RSSI, events and flags
 abbrev pub stateAtPowerUp : ModuleState → ModuleState

@@ -1,15 +1,15 @@
--- A refused payload leaves everything; an accepted one is answered and stored by the functions for these two.
+-- A refused payload leaves the buffer; to an accepted one the response is written by the function for that.
 -- Assumes nothing.
-use mathlib.Core.Path.{sym, ap, ap₂, _∙_}
+use mathlib.Core.Path.{refl, sym, ap, ap₂, _∙_}
 use mathlib.Core.List.{List}
 use Prim.Native.Nat.{ℕ}
-use borrow.Author.Needs.{needs}
-use Rattle.refusal.specs.declared.Outcome.{Outcome}
 use Rattle.cdi_command.specs.Command.{validatedResult}
 use Rattle.cdi_command.proofs.Accepted.{accepted-well-formed, accepted-payload}
 use Rattle.cdi_model.specs.Step.{responded}
-use Rattle.cdi_module.proofs.execute_payload.Statement.{statement}
-use Rattle.cdi_module.proofs.execute_payload.Tie as tie
+use Rattle.cdi_module.proofs.Told.{refusal-told}
+use borrow.Author.Needs.{needs}
+use Rattle.cdi_module.proofs.respond_payload.Statement.{statement}
+use Rattle.cdi_module.proofs.respond_payload.Tie as tie
 
 validate-payload-requires : tie.Need-validate-payload-requires
 validate-payload-requires c κs = search needs
@@ -30,15 +30,15 @@ write-response-requires c κs =
     let e = sym (v .validate-payload .ensures) ∙ ap validatedResult (c .before .before .validated2 .given .1) in
     ((accepted-well-formed p _ e, accepted-payload p _ e), search needs)
 
-store-requires : tie.Need-store-requires
-store-requires c κs = search needs
+stores-requires : tie.Need-stores-requires
+stores-requires c κs = search needs
 
 returns : tie.Need-returns
 returns c =
     let v = c .before .before .before .before in
+    let s = v .before .before .before .args in
     let e = sym (v .validate-payload .ensures) ∙ ap validatedResult (c .before .before .validated .given .1) in
-    let buffer = v .before .before .before .args .response .now in
-    rw e (c .refused .ensures .0, ap (λ (o : Outcome). responded (o .refusal) (o .length) buffer) (c .refused .ensures .1))
+    rw e (refusal-told (s .state) _ (s .response .now) _ (c .refused .ensures))
 
 same-length : tie.Need-same-length
 same-length c = search needs
@@ -49,10 +49,14 @@ returns-2 c =
     let d = w .before .before .before in
     let v = d .before .before in
     let e = sym (v .validate-payload .ensures) ∙ ap validatedResult (d .validated2 .given .1) in
-    rw e (c .store .ensures, ap₂ (λ (n : ℕ) (buffer : List ℕ). responded 0 n buffer) (w .write-response .ensures .0) (w .write-response .ensures .1))
+    rw e (record {
+      decides = refl;
+      tells = c .stores .ensures;
+      results = ap₂ (λ (n : ℕ) (buffer : List ℕ). responded 0 n buffer) (w .write-response .ensures .0) (w .write-response .ensures .1);
+    })
 
-pub execute-payload-spec : {M : Type 1} → statement M
-execute-payload-spec =
+pub respond-payload-spec : {M : Type 1} → statement M
+respond-payload-spec =
     tie.close
     (tie.spec
     validate-payload-requires
@@ -60,7 +64,7 @@ execute-payload-spec =
     refused-requires
     enum-known-validated-2
     write-response-requires
-    store-requires
+    stores-requires
     returns
     same-length
     returns-2)

@@ -1,0 +1,17 @@
+-- The outcome of a refusal, beside a payload that is refused.
+-- Assumes nothing.
+use mathlib.Core.Path.{ap}
+use borrow.Author.Needs.{needs}
+use Rattle.refusal.specs.declared.Outcome.{Outcome}
+use Rattle.cdi_command.specs.declared.Validated.the-variants.{Refused}
+use Rattle.cdi_module.proofs.refused.Statement.{statement}
+use Rattle.cdi_module.proofs.refused.Tie as tie
+
+refused-requires : tie.Need-refused-requires
+refused-requires c κs = search needs
+
+returns : tie.Need-returns
+returns c = rw (c .refused .ensures)
+
+pub refused-spec : {M : Type 1} → statement M
+refused-spec = tie.close (tie.spec refused-requires returns)
