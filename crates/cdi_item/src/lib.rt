@@ -4,6 +4,7 @@ pub mod code;
 pub mod mark;
 
 ghost use mathlib.Core.Path.{_≡_};
+ghost use Prim.Native.Nat.{_+_, _*_};
 ghost use Rattle.logic.specs.Signed.{signed};
 ghost use Rattle.cdi_item.specs.Items.{lookupResult, itemOf, permitted, isSlotIndex, isInputNumber};
 ghost use Rattle.cdi_item.specs.Values.{valueBytes, acceptedValue, acceptedPower, acceptedInput, acceptedSlot};
@@ -238,13 +239,19 @@ fn accepts_input(value: Value) -> bool
         & (reference <= REFERENCE_MAX)
 }
 
+// Four bytes as one number, the first byte lowest: one comparison tests all four.
+fn word(byte0: u8, byte1: u8, byte2: u8, byte3: u8) -> u32
+    ensures { λ r. ⌜ r ≡ byte0 + byte1 * 0x100 + byte2 * 0x10000 + byte3 * 0x1000000 ⌝ }
+{
+    byte0 as u32 + byte1 as u32 * 0x100 + byte2 as u32 * 0x10000 + byte3 as u32 * 0x1000000
+}
+
 // An address of zeros is an empty slot and has the mask 00.
 fn accepts_slot(value: Value) -> bool
     ensures { λ r. ⌜ r ≡ acceptedSlot (valueBytes value) ⌝ }
 {
-    let empty = (value.byte0 == 0)
-        & ((value.byte1 == 0) & ((value.byte2 == 0) & (value.byte3 == 0)));
-    !empty | (value.byte4 == 0)
+    let address = word(value.byte0, value.byte1, value.byte2, value.byte3);
+    (address != 0) | (value.byte4 == 0)
 }
 
 // Whether an item accepts a value. Items without a rule of their own accept every one.

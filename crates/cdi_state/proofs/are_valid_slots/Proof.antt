@@ -1,10 +1,10 @@
--- The slots passed are valid, so whether all are is what the rest says.
+-- Whether all slots are valid is whether those passed are and those of the rest are.
 -- Assumes nothing.
 use Prim.Native.Nat.{_≤_, _-_}
 use mathlib.Core.Path.{_≡_, refl, sym, _∙_}
+use mathlib.Core.Bool.{_&&_, and-true, and-assoc}
 use native.Mathlib.Omega.{arith}
 use borrow.Author.Needs.{needs}
-use borrow.Author.Tests.{not-true, not-false}
 use lib.ListN.{drop}
 use Rattle.logic.proofs.Rest.{one-more, nothing-left}
 use Rattle.cdi_state.specs.State.{noSlot}
@@ -13,10 +13,10 @@ use Rattle.cdi_state.proofs.are_valid_slots.Statement.{statement}
 use Rattle.cdi_state.proofs.are_valid_slots.Tie as tie
 
 abbrev Inv-loop : tie.InvT-loop
-Inv-loop slots i₀ i = (i ≤ 40) × (validSlots slots ≡ validSlots (drop i slots))
+Inv-loop slots valid₀ i₀ valid i = (i ≤ 40) × (validSlots slots ≡ valid && validSlots (drop i slots))
 
 abbrev μ-loop : tie.MeasureT-loop
-μ-loop slots i₀ i = 40 - i
+μ-loop slots valid₀ i₀ valid i = 40 - i
 
 loop-holds : tie.Need-loop-holds Inv-loop μ-loop
 loop-holds c = (omega arith, refl)
@@ -30,14 +30,6 @@ array-copy-out-slot c = search needs
 is-valid-slot-requires : tie.Need-is-valid-slot-requires Inv-loop μ-loop
 is-valid-slot-requires c κs = search needs
 
-returns : tie.Need-returns Inv-loop μ-loop
-unfolding validSlots
-returns c =
-    let l = c .before .before .before .before in
-    let slots = l .before .args .t1 in
-    let invalid = sym (c .before .is-valid-slot .ensures) ∙ not-true _ (c .if1 .taken) in
-    sym (l .loop .inv .1 ∙ rw (one-more slots (l .loop .i) noSlot (search needs)) (simp invalid))
-
 add-i : tie.Need-add-i Inv-loop μ-loop
 add-i c = search needs
 
@@ -47,16 +39,17 @@ loop-less c = search needs
 loop-again : tie.Need-loop-again Inv-loop μ-loop
 unfolding validSlots
 loop-again c =
-    let l = c .before .before .before .before in
-    let slots = l .before .args .t1 in
-    let valid = sym (c .before .is-valid-slot .ensures) ∙ not-false _ (c .if1 .left) in
-    (search needs, l .loop .inv .1 ∙ rw (one-more slots (l .loop .i) noSlot (search needs)) (simp valid))
+    let l = c .before .before .before in
+    let slots = l .before .args .t1 in (
+      search needs,
+      l .loop .inv .1 ∙ rw (one-more slots (l .loop .i) noSlot (search needs), c .is-valid-slot .ensures) (sym (and-assoc (l .loop .valid) _ _)),
+    )
 
-returns-2 : tie.Need-returns-2 Inv-loop μ-loop
+returns : tie.Need-returns Inv-loop μ-loop
 unfolding validSlots
-returns-2 c =
+returns c =
     let l = c .before .loop in
-    sym (l .inv .1 ∙ rw (nothing-left (c .before .before .args .t1) (l .i) (search needs)))
+    sym (l .inv .1 ∙ rw (nothing-left (c .before .before .args .t1) (l .i) (search needs)) (and-true (l .valid)))
 
 pub are-valid-slots-spec : {M : Type 1} → statement M
 are-valid-slots-spec =
@@ -68,8 +61,7 @@ are-valid-slots-spec =
     mul-slot
     array-copy-out-slot
     is-valid-slot-requires
-    returns
     add-i
     loop-less
     loop-again
-    returns-2)
+    returns)
