@@ -11,7 +11,8 @@ use lib.Seq.{take-suc, take-length, drop-length}
 use Rattle.logic.proofs.Rest.{one-more}
 use Rattle.cdi_state.specs.declared.Settings.{Settings}
 use Rattle.cdi_state.specs.State.{noInput, inputAt}
-use Rattle.cdi_module.specs.Value.{nameShown}
+use Rattle.cdi_module.specs.declared.value.Shown.{Shown}
+use Rattle.cdi_module.specs.Value.{nameShown, Shows}
 
 module _ (l : List ℕ) (i : ℕ) (h : i < length l) where
   one-taken : take (i + 1) l ≡ take i l ++ (getD l i 0 ∷ [])
@@ -36,3 +37,7 @@ shown-all l i e = rw (e, take-length l, drop-length l, append-nil)
 pub input-at : (t : Settings) (n : ℕ) → 1 ≤ n → inputAt t n ≡ getD (t .«analog_inputs») (n - 1) noInput
 input-at t zero h = absurd (omega arith)
 input-at t (suc i) h = let e : suc i - 1 ≡ i = omega arith in rw e
+
+-- a value that fits into some room fits into more
+pub shows-more : {n m : ℕ} {v : List ℕ} {x : Shown} → Shows n v x → n ≤ m → Shows m v x
+shows-more {m = m} h le = record { few = omega (arith, h .few); front = h .front }

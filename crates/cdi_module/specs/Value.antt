@@ -1,10 +1,11 @@
 -- Document 01, "Items": the bytes that Read and Read NV answer with, as the module has them in its state.
-use Prim.Native.Nat.{ℕ}
+use Prim.Native.Nat.{ℕ, _≤_}
+use mathlib.Core.Path.{_≡_}
 use mathlib.Core.List.{List, [], _∷_}
 use mathlib.Core.Bool.{cond}
 use lib.Bits.{bitAnd, bitOr}
 use lib.Dec.{eqb}
-use lib.ListN.{getD}
+use lib.ListN.{getD, take}
 use Rattle.cdi_item.specs.Items as item
 use Rattle.cdi_command.specs.declared.Index.{Index}
 use Rattle.cdi_command.specs.declared.Index.the-variants.{Slot, Input}
@@ -15,6 +16,7 @@ use Rattle.cdi_state.specs.declared.HardwareSelection.{HardwareSelection}
 use Rattle.cdi_state.specs.declared.ModuleState.{ModuleState}
 use Rattle.cdi_state.specs.State.{inputBytes, slotBytes, inputAt, noSlot}
 use Rattle.cdi_store.specs.Store.{settingBytes, place}
+use Rattle.cdi_module.specs.declared.value.Shown.{Shown}
 
 -- the byte of an item in one copy of the settings
 unfoldable pub settingByte : Settings → ℕ → ℕ
@@ -65,3 +67,31 @@ valueRead s (Program x v) = []
 valueRead s (ProgramIndexed x i v) = []
 valueRead s SetDefault = []
 valueRead s EraseAll = []
+
+-- ---- a value as it is handed on
+-- the longest value is a name, and a row has five bytes
+abbrev pub valueMax : ℕ
+valueMax = 17
+
+abbrev pub rowLength : ℕ
+rowLength = 5
+
+abbrev pub valueRoom : Command → ℕ
+valueRoom (Read x) = valueMax
+valueRoom (ReadIndexed x i) = rowLength
+valueRoom (ReadNv x) = valueMax
+valueRoom (ReadNvIndexed x i) = rowLength
+valueRoom (Write x v) = 0
+valueRoom (WriteIndexed x i v) = 0
+valueRoom (Program x v) = 0
+valueRoom (ProgramIndexed x i v) = 0
+valueRoom SetDefault = 0
+valueRoom EraseAll = 0
+
+abbrev pub shownBytes : Shown → List ℕ
+shownBytes x = take (x .length) (x .bytes)
+
+-- its bytes stand first, and are no more than there is room for; what stands behind them is free
+pub record Shows (room : ℕ) (value : List ℕ) (x : Shown) : Type 0 where
+  pub few : x .length ≤ room
+  pub front : shownBytes x ≡ value

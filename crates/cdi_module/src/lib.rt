@@ -61,7 +61,8 @@ fn respond_payload(state: ModuleState, payload: &[u8], response: &mut [u8]) -> D
     match validated {
         Validated::Refused(number) => refused(number),
         Validated::Accepted(command) => {
-            let length = response::write_response(state, command, payload, response);
+            let shown = value::read(state, command);
+            let length = response::write_response(command, shown, payload, response);
             Decided {
                 validated: Validated::Accepted(command),
                 stores: cdi_store::stores(Validated::Accepted(command)),

@@ -1,23 +1,22 @@
 // Responses: document 01, "Frame" (answers). `write_response` writes the frame, and has its payload written by the functions above it,
 // which see only the part of the buffer behind the frame's first bytes.
 ghost use mathlib.Core.Path.{_≡_};
-ghost use mathlib.Core.Bool.{true};
 ghost use mathlib.Core.List.{_∷_};
 ghost use Prim.Native.Nat.{_≤_};
 ghost use lib.ListN.{length};
 ghost use Rattle.logic.specs.Written.{written};
-ghost use Rattle.cdi_command.specs.Payload.{fits, WellFormed, indexByte, commandPayload, responsePayload, ackResponse, noError};
-ghost use Rattle.cdi_module.specs.Value.{plainValue, rowValue, valueRead};
-ghost use Rattle.cdi_module.specs.Module.{responseMax, responseTo};
+ghost use Rattle.cdi_frame.specs.Layout.{responseFrame};
+ghost use Rattle.cdi_command.specs.Payload.{indexByte, commandPayload, responsePayload, ackResponse, noError};
+ghost use Rattle.cdi_module.specs.Value.{valueMax, rowLength, valueRoom, shownBytes};
+ghost use Rattle.cdi_module.specs.Module.{responseMax};
 use super::value;
+use super::value::Shown;
 use cdi_command::Command;
 use cdi_command::Index;
 use cdi_frame::LENGTH_BASE;
 use cdi_frame::START;
 use cdi_frame::SYNC;
 use cdi_item::Item;
-use cdi_state::ModuleState;
-use cdi_state::Settings;
 
 // The first byte of a response's payload: to Read, to Read NV, to every other command (001's ACK).
 const READ_RESPONSE: u8 = 0xC1;
@@ -30,13 +29,13 @@ const ACK_RESPONSE: u8 = 0xC0;
 const NO_ERROR: u8 = 0x00;
 
 // Writes the payload of the response to a read of an item that has no index.
-fn put_read(state: ModuleState, settings: Settings, kind: u8, item: Item, out: &mut [u8]) -> usize
-    requires { ⌜ 19 ≤ length (now out) ⌝ }
-    ensures { λ r. ⌜ (r ≤ 19) × ((r ≡ length (kind ∷ item .code ∷ plainValue state settings (item .code))) × (now (out .exit) ≡ written (now (out .entry)) (kind ∷ item .code ∷ plainValue state settings (item .code)))) ⌝ }
+fn put_read(kind: u8, item: Item, shown: Shown, out: &mut [u8]) -> usize
+    requires { ⌜ (shown .length ≤ valueMax) × (19 ≤ length (now out)) ⌝ }
+    ensures { λ r. ⌜ (r ≤ 19) × ((r ≡ length (kind ∷ item .code ∷ shownBytes shown)) × (now (out .exit) ≡ written (now (out .entry)) (kind ∷ item .code ∷ shownBytes shown))) ⌝ }
 {
     out[0] = kind;
     out[1] = item.code;
-    let length = value::put_plain(state, settings, item.code, &mut out[2..]);
+    let length = value::put_shown(shown, &mut out[2..]);
     2 + length
 }
 
@@ -50,21 +49,14 @@ fn index_byte(index: Index) -> u8
 }
 
 // Writes the payload of the response to a read of a row.
-fn put_read_row(
-    state: ModuleState,
-    settings: Settings,
-    kind: u8,
-    item: Item,
-    index: Index,
-    out: &mut [u8],
-) -> usize
-    requires { ⌜ (fits item index ≡ true) × (19 ≤ length (now out)) ⌝ }
-    ensures { λ r. ⌜ (r ≤ 19) × ((r ≡ length (kind ∷ item .code ∷ indexByte index ∷ rowValue state settings index)) × (now (out .exit) ≡ written (now (out .entry)) (kind ∷ item .code ∷ indexByte index ∷ rowValue state settings index))) ⌝ }
+fn put_read_row(kind: u8, item: Item, index: Index, shown: Shown, out: &mut [u8]) -> usize
+    requires { ⌜ (shown .length ≤ rowLength) × (19 ≤ length (now out)) ⌝ }
+    ensures { λ r. ⌜ (r ≤ 19) × ((r ≡ length (kind ∷ item .code ∷ indexByte index ∷ shownBytes shown)) × (now (out .exit) ≡ written (now (out .entry)) (kind ∷ item .code ∷ indexByte index ∷ shownBytes shown))) ⌝ }
 {
     out[0] = kind;
     out[1] = item.code;
     out[2] = index_byte(index);
-    let length = value::put_row(state, settings, item, index, &mut out[3..]);
+    let length = value::put_shown(shown, &mut out[3..]);
     3 + length
 }
 
@@ -79,19 +71,17 @@ fn put_ack(payload: &[u8], out: &mut [u8]) -> usize
     2 + echoed
 }
 
-// Writes the payload of the response to an accepted command.
-fn put_payload(state: ModuleState, command: Command, payload: &[u8], out: &mut [u8]) -> usize
-    requires { ⌜ (WellFormed command × (commandPayload command ≡ now payload)) × (19 ≤ length (now out)) ⌝ }
-    ensures { λ r. ⌜ (r ≤ 19) × ((r ≡ length (responsePayload command (valueRead state command))) × (now (out .exit) ≡ written (now (out .entry)) (responsePayload command (valueRead state command)))) ⌝ }
+// Writes the payload of the response to an accepted command, with the value that it reads.
+fn put_payload(command: Command, shown: Shown, payload: &[u8], out: &mut [u8]) -> usize
+    requires { ⌜ (commandPayload command ≡ now payload) × (shown .length ≤ valueRoom command) × (19 ≤ length (now out)) ⌝ }
+    ensures { λ r. ⌜ (r ≤ 19) × ((r ≡ length (responsePayload command (shownBytes shown))) × (now (out .exit) ≡ written (now (out .entry)) (responsePayload command (shownBytes shown)))) ⌝ }
 {
     match command {
-        Command::Read(item) => put_read(state, state.working, READ_RESPONSE, item, out),
-        Command::ReadIndexed(item, index) => {
-            put_read_row(state, state.working, READ_RESPONSE, item, index, out)
-        }
-        Command::ReadNv(item) => put_read(state, state.nv, READ_NV_RESPONSE, item, out),
+        Command::Read(item) => put_read(READ_RESPONSE, item, shown, out),
+        Command::ReadIndexed(item, index) => put_read_row(READ_RESPONSE, item, index, shown, out),
+        Command::ReadNv(item) => put_read(READ_NV_RESPONSE, item, shown, out),
         Command::ReadNvIndexed(item, index) => {
-            put_read_row(state, state.nv, READ_NV_RESPONSE, item, index, out)
+            put_read_row(READ_NV_RESPONSE, item, index, shown, out)
         }
         Command::Write(_, _) => put_ack(payload, out),
         Command::WriteIndexed(_, _, _) => put_ack(payload, out),
@@ -107,15 +97,15 @@ const PAYLOAD_START: usize = 3;
 
 // Writes the response to an accepted command over the front of `response`, and returns its length.
 pub(crate) fn write_response(
-    state: ModuleState,
     command: Command,
+    shown: Shown,
     payload: &[u8],
     response: &mut [u8],
 ) -> usize
-    requires { ⌜ (WellFormed command × (commandPayload command ≡ now payload)) × (responseMax ≤ length (now response)) ⌝ }
-    ensures { λ r. ⌜ (r ≡ length (responseTo state command)) × (now (response .exit) ≡ written (now (response .entry)) (responseTo state command)) ⌝ }
+    requires { ⌜ (commandPayload command ≡ now payload) × (shown .length ≤ valueRoom command) × (responseMax ≤ length (now response)) ⌝ }
+    ensures { λ r. ⌜ (r ≡ length (responseFrame (responsePayload command (shownBytes shown)))) × (now (response .exit) ≡ written (now (response .entry)) (responseFrame (responsePayload command (shownBytes shown)))) ⌝ }
 {
-    let length = put_payload(state, command, payload, &mut response[PAYLOAD_START..]);
+    let length = put_payload(command, shown, payload, &mut response[PAYLOAD_START..]);
     response[0] = START;
     response[1] = SYNC;
     response[2] = LENGTH_BASE + length as u8;

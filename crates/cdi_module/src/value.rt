@@ -1,12 +1,14 @@
-// The values that Read and Read NV answer with, written where the response has them: document 01, "Items".
+// The values that Read and Read NV answer with: document 01, "Items". A value is read as a whole before any byte of the response is
+// written, so that nothing but the state is looked at.
 ghost use mathlib.Core.Path.{_≡_};
 ghost use mathlib.Core.Bool.{true, cond};
 ghost use mathlib.Core.List.{[], _∷_};
 ghost use Prim.Native.Nat.{_≤_};
 ghost use lib.ListN.{length, take};
 ghost use Rattle.logic.specs.Written.{written};
-ghost use Rattle.cdi_command.specs.Payload.{fits};
-ghost use Rattle.cdi_module.specs.Value.{nameShown, settingByte, statusShown, plainValue, rowValue};
+ghost use Rattle.cdi_command.specs.Payload.{fits, WellFormed};
+ghost use Rattle.cdi_module.specs.Value.{nameShown, settingByte, statusShown, plainValue, rowValue, valueRead, valueMax, rowLength, valueRoom, shownBytes, Shows};
+use cdi_command::Command;
 use cdi_command::Index;
 use cdi_item::Item;
 use cdi_item::code;
@@ -25,6 +27,12 @@ const LINE_MASK_FROM_SETTING: u8 = 0x08;
 
 const LATCH_MASK_FROM_SETTING: u8 = 0x10;
 
+// A value that is read: its bytes stand first, and what stands behind them is of no account.
+pub struct Shown {
+    pub bytes: [u8; 17],
+    pub length: usize,
+}
+
 // Writes bytes over the front of `out`.
 pub(crate) fn put(source: &[u8], out: &mut [u8]) -> usize
     requires { ⌜ length (now source) ≤ length (now out) ⌝ }
@@ -33,12 +41,23 @@ pub(crate) fn put(source: &[u8], out: &mut [u8]) -> usize
     bytes::copy(source, out)
 }
 
-fn put_byte(byte: u8, out: &mut [u8]) -> usize
-    requires { ⌜ 1 ≤ length (now out) ⌝ }
-    ensures { λ r. ⌜ (r ≡ 1) × (now (out .exit) ≡ written (now (out .entry)) (byte ∷ [])) ⌝ }
+// Writes a value over the front of `out`.
+pub(crate) fn put_shown(shown: Shown, out: &mut [u8]) -> usize
+    requires { ⌜ (shown .length ≤ valueMax) × (shown .length ≤ length (now out)) ⌝ }
+    ensures { λ r. ⌜ (r ≡ shown .length) × (now (out .exit) ≡ written (now (out .entry)) (shownBytes shown)) ⌝ }
 {
-    out[0] = byte;
-    1
+    let n = shown.length;
+    let bytes = shown.bytes;
+    put(&bytes[0..n], out)
+}
+
+fn show(source: &[u8]) -> Shown
+    requires { ⌜ length (now source) ≤ valueMax ⌝ }
+    ensures { λ r. ⌜ Shows (length (now (source .entry))) (now (source .entry)) r ⌝ }
+{
+    let mut bytes = [0u8; 17];
+    let length = put(source, &mut bytes);
+    Shown { bytes, length }
 }
 
 // How many bytes of a name are shown: those before its first 00, and that one.
@@ -111,85 +130,102 @@ fn status(settings: Settings, hardware: HardwareSelection, flags: u8, events: u8
     [first, power, line, latch]
 }
 
-fn put_name(name: [u8; 17], out: &mut [u8]) -> usize
-    requires { ⌜ 17 ≤ length (now out) ⌝ }
-    ensures { λ r. ⌜ (r ≤ 17) × ((r ≡ length (nameShown name)) × (now (out .exit) ≡ written (now (out .entry)) (nameShown name))) ⌝ }
+fn show_name(name: [u8; 17]) -> Shown
+    ensures { λ r. ⌜ Shows valueMax (nameShown name) r ⌝ }
 {
-    let n = name_length(name);
-    put(&name[0..n], out)
+    let length = name_length(name);
+    Shown {
+        bytes: name,
+        length,
+    }
 }
 
-// Writes the value of an item that has no index, its settings from one copy.
-pub(crate) fn put_plain(state: ModuleState, settings: Settings, item: u8, out: &mut [u8]) -> usize
-    requires { ⌜ 17 ≤ length (now out) ⌝ }
-    ensures { λ r. ⌜ (r ≤ 17) × ((r ≡ length (plainValue state settings item)) × (now (out .exit) ≡ written (now (out .entry)) (plainValue state settings item))) ⌝ }
+fn show_byte(byte: u8) -> Shown
+    ensures { λ r. ⌜ Shows valueMax (byte ∷ []) r ⌝ }
+{
+    let mut bytes = [0u8; 17];
+    bytes[0] = byte;
+    Shown { bytes, length: 1 }
+}
+
+// The value of an item that has no index, its settings from one copy.
+fn read_plain(state: ModuleState, nv: bool, item: u8) -> Shown
+    ensures { λ r. ⌜ Shows valueMax (plainValue state (cond nv (state .nv) (state .working)) item) r ⌝ }
 {
     if item == code::NAME {
         let name = state.name;
-        return put_name(name, out);
+        return show_name(name);
     }
     if item == code::FIRMWARE {
         let firmware = state.firmware;
-        return put(&firmware, out);
+        return show(&firmware);
     }
     if item == code::SERIAL {
         let serial = state.serial;
-        return put(&serial, out);
+        return show(&serial);
     }
     if item == code::ADDRESS {
         let address = state.address;
-        return put(&address, out);
+        return show(&address);
     }
     if item == code::LINES {
         let lines = state.lines;
-        return put(&lines, out);
+        return show(&lines);
     }
     if item == code::RSSI {
         let rssi = state.rssi;
-        return put(&rssi, out);
+        return show(&rssi);
     }
     if item == code::LADJ {
-        return put_byte(state.ladj, out);
+        return show_byte(state.ladj);
     }
     if item == code::STATUS {
         let bytes = status(state.working, state.hardware, state.flags, state.events);
-        return put(&bytes, out);
+        return show(&bytes);
     }
     if item == code::EVENTS {
-        return put_byte(state.events, out);
+        return show_byte(state.events);
     }
-    put_byte(setting_byte(settings, item), out)
+    if nv {
+        return show_byte(setting_byte(state.nv, item));
+    }
+    show_byte(setting_byte(state.working, item))
 }
 
-// Writes the five bytes of a row.
-fn put_bytes(row: [u8; 5], out: &mut [u8]) -> usize
-    requires { ⌜ 5 ≤ length (now out) ⌝ }
-    ensures { λ r. ⌜ (r ≡ 5) × ((r ≡ length row) × (now (out .exit) ≡ written (now (out .entry)) row)) ⌝ }
-{
-    put(&row, out)
-}
-
-// Writes a row of an indexed item: slots count from 0, inputs from 1.
-pub(crate) fn put_row(
-    state: ModuleState,
-    settings: Settings,
-    item: Item,
-    index: Index,
-    out: &mut [u8],
-) -> usize
-    requires { ⌜ (fits item index ≡ true) × (5 ≤ length (now out)) ⌝ }
-    ensures { λ r. ⌜ (r ≡ 5) × ((r ≡ length (rowValue state settings index)) × (now (out .exit) ≡ written (now (out .entry)) (rowValue state settings index))) ⌝ }
+// A row of an indexed item: slots count from 0, inputs from 1.
+fn read_row(state: ModuleState, settings: Settings, item: Item, index: Index) -> Shown
+    requires { ⌜ fits item index ≡ true ⌝ }
+    ensures { λ r. ⌜ Shows rowLength (rowValue state settings index) r ⌝ }
 {
     match index {
         Index::Slot(at) => {
             let slot = state.slots[at.0 as usize];
             let row = slot.bytes();
-            put_bytes(row, out)
+            show(&row)
         }
         Index::Input(number) => {
             let input = settings.analog_inputs[(number.0 - 1) as usize];
             let row = input.bytes();
-            put_bytes(row, out)
+            show(&row)
         }
+    }
+}
+
+// What a command reads: Read the working copy, Read NV the non-volatile one, any other command nothing.
+pub(crate) fn read(state: ModuleState, command: Command) -> Shown
+    requires { ⌜ WellFormed command ⌝ }
+    ensures { λ r. ⌜ Shows (valueRoom command) (valueRead state command) r ⌝ }
+{
+    match command {
+        Command::Read(item) => read_plain(state, false, item.code),
+        Command::ReadIndexed(item, index) => read_row(state, state.working, item, index),
+        Command::ReadNv(item) => read_plain(state, true, item.code),
+        Command::ReadNvIndexed(item, index) => read_row(state, state.nv, item, index),
+        Command::Write(_, _) => show(&[]),
+        Command::WriteIndexed(_, _, _) => show(&[]),
+        Command::Program(_, _) => show(&[]),
+        Command::ProgramIndexed(_, _, _) => show(&[]),
+        Command::SetDefault => show(&[]),
+        Command::EraseAll => show(&[]),
     }
 }

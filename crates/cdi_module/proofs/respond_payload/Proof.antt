@@ -23,12 +23,20 @@ refused-requires c κs = search needs
 enum-known-validated-2 : tie.Need-enum-known-validated-2
 enum-known-validated-2 c = search needs
 
+read-requires : tie.Need-read-requires
+read-requires c κs =
+    let d = c .before in
+    let v = d .before .before in
+    let p = v .before .before .before .args .payload .now in
+    accepted-well-formed p _ (sym (v .validate-payload .ensures) ∙ ap validatedResult (d .validated2 .given .1))
+
 write-response-requires : tie.Need-write-response-requires
 write-response-requires c κs =
-    let v = c .before .before .before .before in
+    let r = c .before in
+    let d = r .before .before in
+    let v = d .before .before in
     let p = v .before .before .before .args .payload .now in
-    let e = sym (v .validate-payload .ensures) ∙ ap validatedResult (c .before .before .validated2 .given .1) in
-    ((accepted-well-formed p _ e, accepted-payload p _ e), search needs)
+    (accepted-payload p _ (sym (v .validate-payload .ensures) ∙ ap validatedResult (d .validated2 .given .1)), r .read .ensures .few, search needs)
 
 stores-requires : tie.Need-stores-requires
 stores-requires c κs = search needs
@@ -46,13 +54,15 @@ same-length c = search needs
 returns-2 : tie.Need-returns-2
 returns-2 c =
     let w = c .before .before .before in
-    let d = w .before .before .before in
+    let r = w .before .before in
+    let d = r .before .before in
     let v = d .before .before in
     let e = sym (v .validate-payload .ensures) ∙ ap validatedResult (d .validated2 .given .1) in
+    let told = rw (r .read .ensures .front) at (w .write-response .ensures) in
     rw e (record {
       decides = refl;
       tells = c .stores .ensures;
-      results = ap₂ (λ (n : ℕ) (buffer : List ℕ). responded 0 n buffer) (w .write-response .ensures .0) (w .write-response .ensures .1);
+      results = ap₂ (λ (n : ℕ) (buffer : List ℕ). responded 0 n buffer) (told .0) (told .1);
     })
 
 pub respond-payload-spec : {M : Type 1} → statement M
@@ -63,6 +73,7 @@ respond-payload-spec =
     enum-known-validated
     refused-requires
     enum-known-validated-2
+    read-requires
     write-response-requires
     stores-requires
     returns

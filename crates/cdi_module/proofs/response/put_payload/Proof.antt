@@ -6,42 +6,54 @@ use mathlib.Core.Bool.{false}
 use mathlib.Core.List.{_∷_}
 use lib.ListN.{length}
 use Rattle.cdi_command.specs.Payload.{payloadMax, responsePayload, ackResponse, noError}
-use Rattle.cdi_module.specs.Value.{valueRead}
+use Rattle.cdi_module.specs.Value.{shownBytes}
 use Rattle.cdi_module.proofs.Responses.{isRead, echoed, echo-short}
 use borrow.Author.Needs.{needs}
 use Rattle.cdi_module.proofs.response.put_payload.Statement.{statement}
 use Rattle.cdi_module.proofs.response.put_payload.Tie as tie
 
+short : (z : tie.Start) → length (z .args .payload .now) ≤ payloadMax
+short z = echo-short (z .args .command) (z .args .payload .now) (z .pre .0)
+
+echo : (z : tie.Start) → isRead (z .args .command) ≡ false →
+    responsePayload (z .args .command) (shownBytes (z .args .shown)) ≡ ackResponse ∷ noError ∷ z .args .payload .now
+echo z = echoed (z .args .command) (z .args .payload .now) (z .pre .0) (shownBytes (z .args .shown))
+
 enum-known-command : tie.Need-enum-known-command
 enum-known-command c = search needs
 
 put-read-requires : tie.Need-put-read-requires
-put-read-requires c κs = search needs
+put-read-requires c κs =
+    let d = c .before .before in
+    let s = d .before .before .before .before in
+    (rw (d .command .given .1) at (s .pre .1), search needs)
 
 enum-known-command-2 : tie.Need-enum-known-command-2
 enum-known-command-2 c = search needs
 
 put-read-row-requires : tie.Need-put-read-row-requires
 put-read-row-requires c κs =
-    let i = c .before .before in
-    (rw (i .command2 .given .1) at (i .before .before .before .before .pre .0 .0) .1, search needs)
+    let d = c .before .before in
+    let s = d .before .before .before .before in
+    (rw (d .command2 .given .1) at (s .pre .1), search needs)
 
 enum-known-command-3 : tie.Need-enum-known-command-3
 enum-known-command-3 c = search needs
 
 put-read-requires-2 : tie.Need-put-read-requires-2
-put-read-requires-2 c κs = search needs
+put-read-requires-2 c κs =
+    let d = c .before .before in
+    let s = d .before .before .before .before in
+    (rw (d .command3 .given .1) at (s .pre .1), search needs)
 
 enum-known-command-4 : tie.Need-enum-known-command-4
 enum-known-command-4 c = search needs
 
 put-read-row-requires-2 : tie.Need-put-read-row-requires-2
 put-read-row-requires-2 c κs =
-    let i = c .before .before in
-    (rw (i .command4 .given .1) at (i .before .before .before .before .pre .0 .0) .1, search needs)
-
-short : (z : tie.Start) → length (z .args .payload .now) ≤ payloadMax
-short z = echo-short (z .args .command) (z .args .payload .now) (z .pre .0 .1)
+    let d = c .before .before in
+    let s = d .before .before .before .before in
+    (rw (d .command4 .given .1) at (s .pre .1), search needs)
 
 enum-told : tie.Need-enum-told
 enum-told c = search needs
@@ -78,10 +90,6 @@ enum-told-6 c = search needs
 
 put-ack-requires-6 : tie.Need-put-ack-requires-6
 put-ack-requires-6 c κs = (short (c .before .before .before .before .before), search needs)
-
-echo : (z : tie.Start) → isRead (z .args .command) ≡ false →
-    responsePayload (z .args .command) (valueRead (z .args .state) (z .args .command)) ≡ ackResponse ∷ noError ∷ z .args .payload .now
-echo z = echoed (z .args .command) (z .args .payload .now) (z .pre .0 .1) (valueRead (z .args .state) (z .args .command))
 
 same-length : tie.Need-same-length
 same-length c = search needs

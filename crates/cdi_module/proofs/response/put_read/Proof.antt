@@ -1,14 +1,20 @@
 -- Two bytes are stored, and the value is written behind them.
 -- Assumes nothing.
-use mathlib.Core.Path.{ap, _∙_}
+use mathlib.Core.Path.{_≡_, ap, _∙_}
 use mathlib.Core.List.{[], _∷_}
 use native.Mathlib.Omega.{arith}
 use lib.ListN.{length, length-set}
+use lib.Seq.{length-take-le}
 use Rattle.logic.proofs.Written.{written-length, written-behind, room-behind}
-use Rattle.cdi_module.specs.Value.{plainValue}
+use Rattle.cdi_module.specs.Value.{shownBytes}
 use borrow.Author.Needs.{needs}
 use Rattle.cdi_module.proofs.response.put_read.Statement.{statement}
 use Rattle.cdi_module.proofs.response.put_read.Tie as tie
+
+sized : (s : tie.Start) → length (shownBytes (s .args .shown)) ≡ s .args .shown .length
+sized s =
+    let seventeen : length (s .args .shown .bytes) ≡ 17 = search needs in
+    length-take-le (s .args .shown .length) (s .args .shown .bytes) (omega arith)
 
 slice-write-out : tie.Need-slice-write-out
 slice-write-out c = search needs
@@ -16,19 +22,19 @@ slice-write-out c = search needs
 slice-write-out-2 : tie.Need-slice-write-out-2
 slice-write-out-2 c = simp length-set (search needs)
 
-sub-put-plain : tie.Need-sub-put-plain
-sub-put-plain c = simp length-set (search needs)
+sub-put-shown : tie.Need-sub-put-shown
+sub-put-shown c = simp length-set (search needs)
 
-part-put-plain-start : tie.Need-part-put-plain-start
-part-put-plain-start c = simp length-set (search needs)
+part-put-shown-start : tie.Need-part-put-shown-start
+part-put-shown-start c = simp length-set (search needs)
 
-part-put-plain-end : tie.Need-part-put-plain-end
-part-put-plain-end c = search needs
+part-put-shown-end : tie.Need-part-put-shown-end
+part-put-shown-end c = search needs
 
-put-plain-requires : tie.Need-put-plain-requires
-put-plain-requires c κs =
+put-shown-requires : tie.Need-put-shown-requires
+put-shown-requires c κs =
     let a = c .before .before .args in
-    omega (arith, room-behind (a .out .now) (a .kind ∷ a .item .code ∷ []))
+    (search needs, omega (arith, room-behind (a .out .now) (a .kind ∷ a .item .code ∷ [])))
 
 add-result : tie.Need-add-result
 add-result c = search needs
@@ -36,22 +42,21 @@ add-result c = search needs
 returns : tie.Need-returns
 returns c =
     let k = c .before .before in
-    let a = k .before .before .before .args in
-    let p = plainValue (a .state) (a .settings) (a .item .code) in
-    let value = k .put-plain .ensures .1 in (
-      omega arith,
+    let s = k .before .before .before in
+    let a = s .args in
+    let p = shownBytes (a .shown) in (
+      omega (arith, k .put-shown .ensures .0),
       (
-        omega (arith, value .0),
-        written-behind (a .out .now) (a .kind ∷ a .item .code ∷ []) p (k .put-plain .last .1 .1 .1 .0) (search needs) (value .1),
+        omega (arith, k .put-shown .ensures .0, sized s),
+        written-behind (a .out .now) (a .kind ∷ a .item .code ∷ []) p (k .put-shown .last .1 .0) (search needs) (k .put-shown .ensures .1),
       ),
     )
 
 same-length : tie.Need-same-length
 same-length c =
-    let k = c .before .before in
-    let a = k .before .before .before .args in
-    let p = plainValue (a .state) (a .settings) (a .item .code) in
-    ap length (returns c .1 .1) ∙ written-length (a .out .now) (a .kind ∷ a .item .code ∷ p) (omega (arith, k .put-plain .ensures .1 .0))
+    let s = c .before .before .before .before .before in
+    let a = s .args in
+    ap length (returns c .1 .1) ∙ written-length (a .out .now) (a .kind ∷ a .item .code ∷ shownBytes (a .shown)) (omega (arith, sized s))
 
 pub put-read-spec : {M : Type 1} → statement M
 put-read-spec =
@@ -59,10 +64,10 @@ put-read-spec =
     (tie.spec
     slice-write-out
     slice-write-out-2
-    sub-put-plain
-    part-put-plain-start
-    part-put-plain-end
-    put-plain-requires
+    sub-put-shown
+    part-put-shown-start
+    part-put-shown-end
+    put-shown-requires
     add-result
     same-length
     returns)

@@ -1,17 +1,23 @@
 -- Three bytes are stored, and the row is written behind them.
 -- Assumes nothing.
 use Prim.Native.Nat.{ℕ}
-use mathlib.Core.Path.{ap, _∙_}
+use mathlib.Core.Path.{_≡_, ap, _∙_}
 use mathlib.Core.List.{[], _∷_}
 use native.Mathlib.Omega.{arith}
 use lib.ListN.{length, length-set}
+use lib.Seq.{length-take-le}
 use Rattle.logic.proofs.Written.{written-length, written-behind, room-behind}
+use Rattle.cdi_module.specs.Value.{shownBytes}
 use Rattle.logic.specs.Written.{written}
 use Rattle.cdi_command.specs.Payload.{indexByte}
-use Rattle.cdi_module.specs.Value.{rowValue}
 use borrow.Author.Needs.{needs}
 use Rattle.cdi_module.proofs.response.put_read_row.Statement.{statement}
 use Rattle.cdi_module.proofs.response.put_read_row.Tie as tie
+
+sized : (s : tie.Start) → length (shownBytes (s .args .shown)) ≡ s .args .shown .length
+sized s =
+    let seventeen : length (s .args .shown .bytes) ≡ 17 = search needs in
+    length-take-le (s .args .shown .length) (s .args .shown .bytes) (omega arith)
 
 slice-write-out : tie.Need-slice-write-out
 slice-write-out c = search needs
@@ -25,20 +31,20 @@ index-byte-requires c κs = search needs
 slice-write-out-3 : tie.Need-slice-write-out-3
 slice-write-out-3 c = simp length-set (search needs)
 
-sub-put-row : tie.Need-sub-put-row
-sub-put-row c = simp length-set (search needs)
+sub-put-shown : tie.Need-sub-put-shown
+sub-put-shown c = simp length-set (search needs)
 
-part-put-row-start : tie.Need-part-put-row-start
-part-put-row-start c = simp length-set (search needs)
+part-put-shown-start : tie.Need-part-put-shown-start
+part-put-shown-start c = simp length-set (search needs)
 
-part-put-row-end : tie.Need-part-put-row-end
-part-put-row-end c = search needs
+part-put-shown-end : tie.Need-part-put-shown-end
+part-put-shown-end c = search needs
 
-put-row-requires : tie.Need-put-row-requires
-put-row-requires c κs =
+put-shown-requires : tie.Need-put-shown-requires
+put-shown-requires c κs =
     let i = c .before in
-    let z = i .before .before in
-    (z .pre .0, omega (arith, room-behind (z .args .out .now) (z .args .kind ∷ z .args .item .code ∷ i .index-byte .result ∷ [])))
+    let a = i .before .before .args in
+    (search needs, omega (arith, room-behind (a .out .now) (a .kind ∷ a .item .code ∷ i .index-byte .result ∷ [])))
 
 add-result : tie.Need-add-result
 add-result c = search needs
@@ -46,26 +52,24 @@ add-result c = search needs
 returns : tie.Need-returns
 returns c =
     let k = c .before .before in
-    let a = k .before .before .before .before .args in
     let i = k .before .before in
-    let p = rowValue (a .state) (a .settings) (a .index) in
-    let head = a .kind ∷ a .item .code ∷ i .index-byte .result ∷ [] in
-    let row = k .put-row .ensures .1 in (
-      omega arith,
+    let s = i .before .before in
+    let a = s .args in
+    let p = shownBytes (a .shown) in
+    let head = a .kind ∷ a .item .code ∷ i .index-byte .result ∷ [] in (
+      omega (arith, k .put-shown .ensures .0),
       (
-        omega (arith, row .0),
-        written-behind (a .out .now) head p (k .put-row .last .1 .1 .1 .1 .0) (search needs) (row .1) ∙
+        omega (arith, k .put-shown .ensures .0, sized s),
+        written-behind (a .out .now) head p (k .put-shown .last .1 .0) (search needs) (k .put-shown .ensures .1) ∙
             ap (λ (b : ℕ). written (a .out .now) (a .kind ∷ a .item .code ∷ b ∷ p)) (i .index-byte .ensures),
       ),
     )
 
 same-length : tie.Need-same-length
 same-length c =
-    let k = c .before .before in
-    let a = k .before .before .before .before .args in
-    let p = rowValue (a .state) (a .settings) (a .index) in
-    ap length (returns c .1 .1) ∙
-    written-length (a .out .now) (a .kind ∷ a .item .code ∷ indexByte (a .index) ∷ p) (omega (arith, k .put-row .ensures .1 .0))
+    let s = c .before .before .before .before .before .before in
+    let a = s .args in
+    ap length (returns c .1 .1) ∙ written-length (a .out .now) (a .kind ∷ a .item .code ∷ indexByte (a .index) ∷ shownBytes (a .shown)) (omega (arith, sized s))
 
 pub put-read-row-spec : {M : Type 1} → statement M
 put-read-row-spec =
@@ -75,10 +79,10 @@ put-read-row-spec =
     slice-write-out-2
     index-byte-requires
     slice-write-out-3
-    sub-put-row
-    part-put-row-start
-    part-put-row-end
-    put-row-requires
+    sub-put-shown
+    part-put-shown-start
+    part-put-shown-end
+    put-shown-requires
     add-result
     same-length
     returns)

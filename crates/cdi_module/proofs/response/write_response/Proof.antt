@@ -7,7 +7,7 @@ use lib.ListN.{length, length-set}
 use Rattle.logic.proofs.Written.{written-before}
 use Rattle.cdi_frame.specs.Layout.{start, sync, lengthBase}
 use Rattle.cdi_command.specs.Payload.{responsePayload}
-use Rattle.cdi_module.specs.Value.{valueRead}
+use Rattle.cdi_module.specs.Value.{shownBytes}
 use borrow.Author.Needs.{needs}
 use Rattle.cdi_module.proofs.response.write_response.Statement.{statement}
 use Rattle.cdi_module.proofs.response.write_response.Tie as tie
@@ -49,7 +49,7 @@ returns : tie.Need-returns
 returns c =
     let k = c .before .before in
     let a = k .before .before .before .before .args in
-    let p = responsePayload (a .command) (valueRead (a .state) (a .command)) in
+    let p = responsePayload (a .command) (shownBytes (a .shown)) in
     let r = k .put-payload .ensures .1 in (
       omega (arith, r .0),
       rw (r .0) (written-before (a .response .now) (start ∷ sync ∷ (lengthBase + length p) ∷ []) p (k .put-payload .last .1 .1 .1 .0) (search needs) (r .1)),

@@ -1,0 +1,197 @@
+-- The tests are those of the definition, in the same order, and each value is shown by the function for its kind.
+-- Assumes nothing.
+use mathlib.Core.Path.{_≡_, sym, ap}
+use mathlib.Core.List.{[], _∷_}
+use native.Mathlib.Omega.{arith}
+use borrow.Author.Tests.{ne-eqb}
+use lib.ListN.{length}
+use Rattle.cdi_state.specs.declared.Settings.{Settings}
+use Rattle.cdi_module.specs.Value.{settingByte, statusShown, plainValue}
+use Rattle.cdi_module.proofs.Values.{shows-more}
+use borrow.Author.Needs.{needs}
+use Rattle.cdi_module.proofs.value.read_plain.Statement.{statement}
+use Rattle.cdi_module.proofs.value.read_plain.Tie as tie
+
+lengths : (z : tie.Start) →
+    let s = z .args .state in
+    (length (s .firmware) ≡ 3) × (length (s .serial) ≡ 4) × (length (s .address) ≡ 4) × (length (s .lines) ≡ 2) × (length (s .rssi) ≡ 2)
+lengths z = (search needs, search needs, search needs, search needs, search needs)
+
+status-length : (c : tie.After-status) → length (c .status .result) ≡ 4
+unfolding statusShown
+status-length c = ap length (c .status .ensures)
+
+other : (c : tie.Else9) →
+    let a = c .before .before .before .before .before .before .before .before .before .args in
+    (t : Settings) → plainValue (a .state) t (a .item) ≡ settingByte t (a .item) ∷ []
+unfolding plainValue
+other c t =
+    let d = c .before .before .before in
+    let e = d .before .before .before in
+    simp (
+      ne-eqb _ _ (e .before .before .if1 .left),
+      ne-eqb _ _ (e .before .if2 .left),
+      ne-eqb _ _ (e .if3 .left),
+      ne-eqb _ _ (d .before .before .if4 .left),
+      ne-eqb _ _ (d .before .if5 .left),
+      ne-eqb _ _ (d .if6 .left),
+      ne-eqb _ _ (c .before .before .if7 .left),
+      ne-eqb _ _ (c .before .if8 .left),
+      ne-eqb _ _ (c .if9 .left),
+    )
+
+show-name-requires : tie.Need-show-name-requires
+show-name-requires c κs = search needs
+
+returns : tie.Need-returns
+unfolding plainValue
+returns c = rw (c .before .before .if1 .taken) (c .show-name .ensures)
+
+slice-aggregate-show : tie.Need-slice-aggregate-show
+slice-aggregate-show c = search needs
+
+show-requires : tie.Need-show-requires
+show-requires c κs = omega (arith, lengths (c .before .before .before .before) .0)
+
+returns-2 : tie.Need-returns-2
+unfolding plainValue
+returns-2 c =
+    let t = c .before .before .before in
+    rw (t .if2 .taken) (shows-more (c .show .ensures) (omega (arith, lengths (t .before .before) .0)))
+
+slice-aggregate-show-2 : tie.Need-slice-aggregate-show-2
+slice-aggregate-show-2 c = search needs
+
+show-requires-2 : tie.Need-show-requires-2
+show-requires-2 c κs = omega (arith, lengths (c .before .before .before .before .before) .1)
+
+returns-3 : tie.Need-returns-3
+unfolding plainValue
+returns-3 c =
+    let t = c .before .before .before in
+    rw (t .if3 .taken) (shows-more (c .show2 .ensures) (omega (arith, lengths (t .before .before .before) .1)))
+
+slice-aggregate-show-3 : tie.Need-slice-aggregate-show-3
+slice-aggregate-show-3 c = search needs
+
+show-requires-3 : tie.Need-show-requires-3
+show-requires-3 c κs = omega (arith, lengths (c .before .before .before .before .before .before) .2)
+
+returns-4 : tie.Need-returns-4
+unfolding plainValue
+returns-4 c =
+    let t = c .before .before .before in
+    rw (t .if4 .taken) (shows-more (c .show3 .ensures) (omega (arith, lengths (t .before .before .before .before) .2)))
+
+slice-aggregate-show-4 : tie.Need-slice-aggregate-show-4
+slice-aggregate-show-4 c = search needs
+
+show-requires-4 : tie.Need-show-requires-4
+show-requires-4 c κs = omega (arith, lengths (c .before .before .before .before .before .before .before) .3)
+
+returns-5 : tie.Need-returns-5
+unfolding plainValue
+returns-5 c =
+    let t = c .before .before .before in
+    rw (t .if5 .taken) (shows-more (c .show4 .ensures) (omega (arith, lengths (t .before .before .before .before .before) .3)))
+
+slice-aggregate-show-5 : tie.Need-slice-aggregate-show-5
+slice-aggregate-show-5 c = sym (lengths (c .before .before .before .before .before .before .before .before) .4)
+
+show-requires-5 : tie.Need-show-requires-5
+show-requires-5 c κs = omega (arith, lengths (c .before .before .before .before .before .before .before .before) .4)
+
+returns-6 : tie.Need-returns-6
+unfolding plainValue
+returns-6 c =
+    let t = c .before .before .before in
+    rw (t .if6 .taken) (shows-more (c .show5 .ensures) (omega (arith, lengths (t .before .before .before .before .before .before) .4)))
+
+show-byte-requires : tie.Need-show-byte-requires
+show-byte-requires c κs = search needs
+
+returns-7 : tie.Need-returns-7
+unfolding plainValue
+returns-7 c = rw (c .before .if7 .taken) (c .show-byte .ensures)
+
+status-requires : tie.Need-status-requires
+status-requires c κs = search needs
+
+slice-aggregate-show-6 : tie.Need-slice-aggregate-show-6
+slice-aggregate-show-6 c = search needs
+
+show-requires-6 : tie.Need-show-requires-6
+show-requires-6 c κs = search needs
+
+returns-8 : tie.Need-returns-8
+unfolding plainValue
+returns-8 c =
+    let s = c .before .before in
+    rw (s .before .if8 .taken, ← s .status .ensures) (shows-more (c .show6 .ensures) (omega (arith, status-length s)))
+
+show-byte-requires-2 : tie.Need-show-byte-requires-2
+show-byte-requires-2 c κs = search needs
+
+returns-9 : tie.Need-returns-9
+unfolding plainValue
+returns-9 c = rw (c .before .if9 .taken) (c .show-byte2 .ensures)
+
+setting-byte-requires : tie.Need-setting-byte-requires
+setting-byte-requires c κs = search needs
+
+show-byte-requires-3 : tie.Need-show-byte-requires-3
+show-byte-requires-3 c κs = search needs
+
+returns-10 : tie.Need-returns-10
+returns-10 c =
+    let b = c .before in
+    let t = b .before in
+    rw (other (t .before), t .if10 .taken, ← b .setting-byte .ensures) (c .show-byte3 .ensures)
+
+setting-byte-requires-2 : tie.Need-setting-byte-requires-2
+setting-byte-requires-2 c κs = search needs
+
+show-byte-requires-4 : tie.Need-show-byte-requires-4
+show-byte-requires-4 c κs = search needs
+
+returns-11 : tie.Need-returns-11
+returns-11 c =
+    let b = c .before in
+    let t = b .before in
+    rw (other (t .before), t .if10 .left, ← b .setting-byte2 .ensures) (c .show-byte4 .ensures)
+
+pub read-plain-spec : {M : Type 1} → statement M
+read-plain-spec =
+    tie.close
+    (tie.spec
+    show-name-requires
+    returns
+    slice-aggregate-show
+    show-requires
+    returns-2
+    slice-aggregate-show-2
+    show-requires-2
+    returns-3
+    slice-aggregate-show-3
+    show-requires-3
+    returns-4
+    slice-aggregate-show-4
+    show-requires-4
+    returns-5
+    slice-aggregate-show-5
+    show-requires-5
+    returns-6
+    show-byte-requires
+    returns-7
+    status-requires
+    slice-aggregate-show-6
+    show-requires-6
+    returns-8
+    show-byte-requires-2
+    returns-9
+    setting-byte-requires
+    show-byte-requires-3
+    returns-10
+    setting-byte-requires-2
+    show-byte-requires-4
+    returns-11)
