@@ -4,9 +4,11 @@ mod response;
 mod value;
 
 ghost use mathlib.Core.Path.{_≡_};
+ghost use mathlib.Core.Bool.{_||_};
 ghost use Prim.Native.Nat.{_≤_};
 ghost use lib.ListN.{length};
 ghost use Rattle.cdi_command.specs.Command.{validatePayload};
+ghost use Rattle.cdi_state.specs.Valid.{isValid};
 ghost use Rattle.cdi_model.specs.Step.{command, powerUp, poweredUp, responded};
 ghost use Rattle.cdi_module.specs.Module.{responseMax, decided, decideIf, decide, refusedAs, Responds, step, resultOf};
 use cdi_command::Validated;
@@ -75,9 +77,8 @@ fn respond_payload(state: ModuleState, payload: &[u8], response: &mut [u8]) -> D
     }
 }
 
-// Decides on a command block and writes its response over the front of `response`, for a state of which it is known whether it is
-// valid. Nothing is stored yet.
-pub fn respond_if(valid: bool, state: ModuleState, block: &[u8], response: &mut [u8]) -> Decided
+// Decides on a command block, given whether the state is valid, and writes its response.
+fn respond_if(valid: bool, state: ModuleState, block: &[u8], response: &mut [u8]) -> Decided
     ensures { λ r. ⌜ Responds state (decideIf valid (now (block .entry)) (now (response .entry))) (now (response .entry)) (now (response .exit)) r ⌝ }
 {
     if response.len() < RESPONSE_MAX {
@@ -103,6 +104,24 @@ pub fn respond(state: ModuleState, block: &[u8], response: &mut [u8]) -> Decided
     ensures { λ r. ⌜ Responds state (decide state (command (now (block .entry)) (now (response .entry)))) (now (response .entry)) (now (response .exit)) r ⌝ }
 {
     let valid = state.is_valid();
+    respond_if(valid, state, block, response)
+}
+
+// Whether a state is valid, where that is not known already.
+fn is_known_or_valid(known: bool, state: ModuleState) -> bool
+    ensures { λ r. ⌜ r ≡ known || isValid state ⌝ }
+{
+    if known {
+        return true;
+    }
+    state.is_valid()
+}
+
+// The same for a state that may be known to be valid: no step changes whether a state is, so who runs many blocks asks once.
+pub fn respond_known(known: bool, state: ModuleState, block: &[u8], response: &mut [u8]) -> Decided
+    ensures { λ r. ⌜ Responds state (decideIf (known || isValid state) (now (block .entry)) (now (response .entry))) (now (response .entry)) (now (response .exit)) r ⌝ }
+{
+    let valid = is_known_or_valid(known, state);
     respond_if(valid, state, block, response)
 }
 
