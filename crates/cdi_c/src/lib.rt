@@ -22,15 +22,17 @@ pub extern "C" fn cdi_factory() -> ModuleState
     ModuleState::factory()
 }
 
-// Executes one command block.
+// Executes one command block. The state is copied back only where the block stores something.
 #[no_mangle]
 pub extern "C" fn cdi_execute(state: &mut ModuleState, block: &[u8], response: &mut [u8]) -> Outcome
     ensures { λ r. ⌜ (now (state .exit) ≡ step (now (state .entry)) (command (now (block .entry)) (now (response .entry))))
         × (responded (r .refusal) (r .length) (now (response .exit)) ≡ resultOf (now (state .entry)) (command (now (block .entry)) (now (response .entry)))) ⌝ }
 {
-    let done = cdi_module::execute(*state, block, response);
-    *state = done.state;
-    done.outcome
+    let decided = cdi_module::respond(*state, block, response);
+    if decided.stores {
+        *state = cdi_store::store(*state, decided.validated);
+    }
+    decided.outcome
 }
 
 // Powers the module up.
