@@ -3,14 +3,16 @@
 -- Assumes nothing.
 use mathlib.Core.Path.{_≡_, refl, sym, ap, ap₂, _∙_}
 use mathlib.Core.Bool.{true, false, cond, _&&_, _||_, and-false, and-eq-true-iff}
+use mathlib.Core.List.{List}
 use lib.Dec.{ltb}
 use lib.ListN.{length}
-use Rattle.logic.proofs.Choice.{choice, by-cases}
-use Rattle.sequence.specs.Model.{Lawful, next, accepts, touches}
+use Rattle.logic.proofs.Choice.{choice, by-cases, either}
+use Rattle.sequence.specs.Model.{Lawful, next, accepts, touches, results}
+use Rattle.sequence.proofs.Laws.{results-by-real}
 use Rattle.cdi_model.specs.Cells.{nv, working, lineMask, latchMask, txPower, controlSource, interruptMask, setting, events, flags, hardwarePower, hardwareLineMask, hardwareLatchMask, Cell, stored, single, hasWorking, isKey, isCell, same}
 use Rattle.cdi_model.specs.Step.{Step, powerUp, command}
 use Rattle.cdi_model.specs.Action.{Action, read, readNv, readStatus, write, program, setDefault, eraseAll}
-use Rattle.cdi_model.specs.Table.{Decision, refuse, execute, executePowerUp, isAccepted, actionReads, powerUpStores, reads, stores}
+use Rattle.cdi_model.specs.Table.{Decision, refuse, execute, executePowerUp, isAccepted, inCopy, actionReads, actionStores, powerUpStores, reads, stores}
 use Rattle.cdi_model.specs.Model.{Cells, isValid, responseBufferMin, decide, gives, shown, actionValue, valueRead, resultOf, model}
 use Rattle.cdi_model.proofs.Cells.{same-refl}
 use Rattle.cdi_model.proofs.Checked.{Checked, CheckedDecision, step-checked}
@@ -115,3 +117,21 @@ lawful = record {
       );
   refused-touches-none = refused-touches-none;
 }
+
+-- ---- real cells
+-- a step touches real cells alone, ...
+decision-touches-real : (d : Decision) (c : Cell) → reads d c || stores d c ≡ true → isCell c ≡ true
+unfolding reads stores
+decision-touches-real (refuse n) c e = cc
+decision-touches-real (execute payload a) c e =
+    either (isCell c && actionReads a c) (isCell c && actionStores a c) e
+    (λ p. and-eq-true-iff (isCell c) (actionReads a c) .0 p .0) (λ p. and-eq-true-iff (isCell c) (actionStores a c) .0 p .0)
+decision-touches-real executePowerUp c e =
+    either (isCell c && inCopy nv c) (isCell c && powerUpStores c) e
+    (λ p. and-eq-true-iff (isCell c) (inCopy nv c) .0 p .0) (λ p. and-eq-true-iff (isCell c) (powerUpStores c) .0 p .0)
+
+-- ... so what stands under a name that is no cell is never seen
+pub results-by-real-cells : (s t : Cells) (xs : List Step) → isValid t ≡ isValid s → ((c : Cell) → isCell c ≡ true → t c ≡ s c)
+    → results model t xs ≡ results model s xs
+unfolding lawful
+results-by-real-cells = results-by-real model lawful isCell (λ s x c. decision-touches-real (decide s x) c)
