@@ -1,4 +1,2 @@
-pub mod Printed
-pub mod Read
-pub mod Lines
 pub mod Kept
+pub mod Left

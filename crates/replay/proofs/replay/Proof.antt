@@ -5,16 +5,16 @@ use Prim.Native.Nat.{_≤_}
 use mathlib.Core.Path.{_≡_}
 use borrow.Author.Needs.{needs}
 use lib.ListN.{length}
-use Rattle.replay.specs.Replay.{bufferSize}
+use Rattle.replay.specs.Program.{bufferSize}
 use Rattle.replay.proofs.replay.Statement.{statement}
 use Rattle.replay.proofs.replay.Tie as tie
 
 abbrev Inv-loop : tie.InvT-loop
-Inv-loop input₀ output₀ progress₀ turns₀ input output progress turns =
-    (length input ≡ bufferSize) × (length output ≡ bufferSize) × (progress .start ≤ progress .end) × (progress .end ≤ bufferSize)
+Inv-loop input₀ output₀ session₀ turns₀ input output session turns =
+    (length input ≡ bufferSize) × (length output ≡ bufferSize) × (session .start ≤ session .end) × (session .end ≤ bufferSize)
 
 abbrev μ-loop : tie.MeasureT-loop
-μ-loop input₀ output₀ progress₀ turns₀ input output progress turns = turns
+μ-loop input₀ output₀ session₀ turns₀ input output session turns = turns
 
 factory-requires : tie.Need-factory-requires Inv-loop μ-loop
 factory-requires c κs = search needs

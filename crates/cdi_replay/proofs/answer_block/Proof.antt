@@ -1,13 +1,13 @@
--- `replay::answer_block` meets its contract: the response lies within its buffer, so its line is that of the step's result.
+-- `cdi_replay::answer_block` meets its contract: the response lies within its buffer, so its line is that of the step's result.
 -- Assumes nothing.
 use mathlib.Core.Path.{_≡_}
 use borrow.Author.Needs.{needs}
 use lib.ListN.{length, replicate}
 use Rattle.cdi_module.proofs.Within.{result-within}
 use Rattle.cdi_module.specs.Module.{responseMax}
-use Rattle.replay.proofs.Printed.{same-result}
-use Rattle.replay.proofs.answer_block.Statement.{statement}
-use Rattle.replay.proofs.answer_block.Tie as tie
+use Rattle.cdi_replay.proofs.Printed.{same-result}
+use Rattle.cdi_replay.proofs.answer_block.Statement.{statement}
+use Rattle.cdi_replay.proofs.answer_block.Tie as tie
 
 slice-aggregate-execute : tie.Need-slice-aggregate-execute
 slice-aggregate-execute c = search needs

@@ -1,4 +1,4 @@
--- `replay::write_outcome` meets its contract: a length of 0 prints the refusal, any other prints so many bytes of the response, and
+-- `cdi_replay::write_outcome` meets its contract: a length of 0 prints the refusal, any other prints so many bytes of the response, and
 -- both lines fit into the room for the longest.
 -- Assumes nothing.
 use native.Mathlib.Nat.{sub-zero}
@@ -6,9 +6,9 @@ use native.Mathlib.Omega.{arith}
 use borrow.Author.Needs.{needs}
 use borrow.Author.Tests.{eq-eqb, ne-eqb}
 use Rattle.hex_text.proofs.Text.{refusedText-length}
-use Rattle.replay.proofs.Printed.{prints, response-short}
-use Rattle.replay.proofs.write_outcome.Statement.{statement}
-use Rattle.replay.proofs.write_outcome.Tie as tie
+use Rattle.cdi_replay.proofs.Printed.{prints, response-short}
+use Rattle.cdi_replay.proofs.write_outcome.Statement.{statement}
+use Rattle.cdi_replay.proofs.write_outcome.Tie as tie
 
 write-refused-requires : tie.Need-write-refused-requires
 write-refused-requires c κs = search needs

@@ -1,32 +1,32 @@
--- `replay::answer_lines` meets its contract: each turn answers the line that ends at the next line feed, behind the lines before it.
+-- `cdi_replay::replay_lines` meets its contract: each turn answers the line that ends at the next line feed, behind the lines before it.
 -- Assumes nothing.
 use Prim.Native.Nat.{_+_, _-_, _≤_}
-use mathlib.Core.Path.{_≡_, refl, _∙_}
+use mathlib.Core.Path.{_≡_, _∙_}
 use native.Mathlib.Omega.{arith}
 use borrow.Author.Needs.{needs}
-use borrow.Author.Tests.{leb-true}
-use lib.ListN.{length, take, drop}
+use borrow.Author.Tests.{leb-true, leb-false}
+use lib.ListN.{length}
 use Rattle.bytes.specs.Bytes.{slice, indexOf}
 use Rattle.hex_text.specs.Hex.{lineFeed}
-use Rattle.replay.specs.Replay.{bufferSize, blockMax, printedMax, Answers}
-use Rattle.replay.proofs.Lines.{answered-line, room-left, none-left}
-use Rattle.replay.proofs.answer_lines.Statement.{statement}
-use Rattle.replay.proofs.answer_lines.Tie as tie
+use Rattle.cdi_replay.specs.Answered.{blockMax, printedMax}
+use Rattle.cdi_replay.proofs.Answering.{SoFar, at-start, answered-line, room-left, no-room, no-line, all-answered}
+use Rattle.cdi_replay.proofs.replay_lines.Statement.{statement}
+use Rattle.cdi_replay.proofs.replay_lines.Tie as tie
 
 abbrev Inv-loop : tie.InvT-loop
-Inv-loop input from output₀ current₀ used₀ start₀ block₀ end₀ output current used start block end =
-    (length output ≡ bufferSize) × (used ≤ bufferSize) × (start ≤ end) × (end ≤ length input) × (length block ≡ blockMax)
+Inv-loop input output₀ current₀ used₀ start₀ block₀ end₀ output current used start block end =
+    (length output ≡ length output₀) × (start ≤ end) × (end ≤ length input) × (length block ≡ blockMax)
     × (end ≡ start + indexOf lineFeed (slice start (length input) input))
-    × Answers current₀ (drop from input) (take used output) current (drop start input)
+    × SoFar current₀ input output₀ current start used output
 
 abbrev μ-loop : tie.MeasureT-loop
-μ-loop input from output₀ current₀ used₀ start₀ block₀ end₀ output current used start block end = length input - start
+μ-loop input output₀ current₀ used₀ start₀ block₀ end₀ output current used start block end = length input - start
 
 find-requires : tie.Need-find-requires Inv-loop μ-loop
 find-requires c κs = search needs
 
 loop-holds : tie.Need-loop-holds Inv-loop μ-loop
-loop-holds c = (search needs, search needs, search needs, search needs, search needs, c .find .ensures .0, record { texts = refl; states = refl })
+loop-holds c = (search needs, search needs, search needs, search needs, c .find .ensures .0, at-start _ _ _)
 
 sub-if1 : tie.Need-sub-if1 Inv-loop μ-loop
 sub-if1 c = search needs
@@ -56,10 +56,16 @@ answer-line-requires : tie.Need-answer-line-requires Inv-loop μ-loop
 answer-line-requires c κs =
     let loop = c .before .before .before .before .before .loop in
     let room = leb-true printedMax (length (loop .output) - loop .used) (c .before .before .before .if1 .taken) in
-    (loop .inv .4, room-left (loop .output) (loop .used) printedMax room)
+    (loop .inv .3, room-left (loop .output) (loop .used) printedMax room)
 
 add-used : tie.Need-add-used Inv-loop μ-loop
-add-used c = search needs
+add-used c =
+    let s = c .before .before .before .before .before .before .before .before .before .before .before .before .before .before .before in
+    let loop = c .before .before .before .before .before .before .before .before .before .before .before .loop in
+    let test = c .before .before .before .before .before .before .before .before .before .if1 .taken in
+    let room = leb-true printedMax (length (loop .output) - loop .used) test in
+    let call = c .before .before .before .before .before .answer-line in
+    omega (arith, room, call .ensures .1 .few, loop .inv .0, s .good .1 .1 .0)
 
 add-start : tie.Need-add-start Inv-loop μ-loop
 add-start c =
@@ -83,13 +89,12 @@ loop-again c =
     let call = c .before .before .before .before .before .before .answer-line in
     let back = c .before .before .before .before .output .given in (
       back .1 ∙ loop .inv .0,
-      omega (arith, call .ensures .1 .few),
       omega (arith, c .find2 .ensures .0),
       c .find2 .ensures .1,
       search needs,
       c .find2 .ensures .0,
-      answered-line (s .args .state) (loop .current) _ (drop (s .args .from) (s .args .input .now)) (s .args .input .now) (loop .output) _ _ _
-          (loop .start) (loop .end) (loop .used) _ (loop .inv .6) (loop .inv .5) inside (omega arith) (call .ensures .0) (call .ensures .1),
+      answered-line (s .args .input .now) (loop .start) (loop .end) (loop .inv .4) (s .args .state) (loop .current) _ (s .args .output .now)
+          (loop .output) _ (loop .used) _ (loop .inv .0) (loop .inv .5) inside (loop .inv .1) room (call .ensures .0) (call .ensures .1),
     )
 
 same-length : tie.Need-same-length Inv-loop μ-loop
@@ -97,12 +102,26 @@ same-length c = search needs
 
 returns : tie.Need-returns Inv-loop μ-loop
 returns c =
+    let s = c .before .before .before .before .before .before in
+    let loop = c .before .before .loop in
+    let short = leb-false printedMax (length (loop .output) - loop .used) (c .if1 .left) in
+    let same = loop .inv .0 in
+    all-answered (s .args .state) (loop .current) (s .args .input .now) (s .args .output .now) (loop .output) (loop .start) (loop .used) same
+    (loop .inv .5) (no-room (loop .current) (s .args .input .now) (loop .start) (length (s .args .output .now) - loop .used) (omega arith))
+
+same-length-2 : tie.Need-same-length-2 Inv-loop μ-loop
+same-length-2 c = search needs
+
+returns-2 : tie.Need-returns-2 Inv-loop μ-loop
+returns-2 c =
     let s = c .before .before .before .before .before in
     let loop = c .before .loop in
-    (loop .inv .1, omega arith, loop .inv .6, λ last. none-left (s .args .input .now) (loop .start) (loop .end) (loop .inv .2) (loop .inv .5) last)
+    all-answered (s .args .state) (loop .current) (s .args .input .now) (s .args .output .now) (loop .output) (loop .start) (loop .used) (loop .inv .0)
+    (loop .inv .5) (no-line (loop .current) (s .args .input .now) (loop .start) (loop .end) (length (s .args .output .now) - loop .used)
+    (loop .inv .4) (omega arith))
 
-pub answer-lines-spec : {M : Type 1} → statement M
-answer-lines-spec =
+pub replay-lines-spec : {M : Type 1} → statement M
+replay-lines-spec =
     tie.close
     (tie.spec
     Inv-loop
@@ -124,4 +143,6 @@ answer-lines-spec =
     loop-less
     loop-again
     same-length
-    returns)
+    returns
+    same-length-2
+    returns-2)

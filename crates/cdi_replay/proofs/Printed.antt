@@ -11,7 +11,8 @@ use Rattle.hex_text.specs.Hex.{hexText, printed, lengthIn, writtenIn}
 use Rattle.hex_text.proofs.Text.{hexText-length}
 use Rattle.cdi_model.specs.Step.{StepResult}
 use Rattle.cdi_module.specs.Module.{responseMax}
-use Rattle.replay.specs.Replay.{printedMax, resultText, Prints}
+use Rattle.cdi_replay.specs.Replay.{resultText}
+use Rattle.cdi_replay.specs.Answered.{printedMax, Prints}
 
 -- a line that is short enough is written where there is room for the longest
 pub prints : (text before after : List ℕ) (count : ℕ) → length (printed text) ≤ printedMax → printedMax ≤ length before

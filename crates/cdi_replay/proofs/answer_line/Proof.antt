@@ -1,4 +1,4 @@
--- `replay::answer_line` meets its contract: a block that is read stands at the buffer's front, and 200 bytes have room for every block.
+-- `cdi_replay::answer_line` meets its contract: a block that is read stands at the buffer's front, and 200 bytes have room for every block.
 -- Assumes nothing.
 use Prim.Native.Nat.{ℕ, _≤_}
 use mathlib.Core.Path.{_≡_, refl, sym, ap, _∙_}
@@ -9,10 +9,10 @@ use borrow.Author.Needs.{needs}
 use lib.ListN.{length, take}
 use Rattle.hex_text.specs.Hex.{block, hexLine}
 use Rattle.hex_text.proofs.Laws.{room-enough}
-use Rattle.replay.proofs.Printed.{prints}
-use Rattle.replay.proofs.Read.{block-read, not-hex-read}
-use Rattle.replay.proofs.answer_line.Statement.{statement}
-use Rattle.replay.proofs.answer_line.Tie as tie
+use Rattle.cdi_replay.proofs.Printed.{prints}
+use Rattle.cdi_replay.proofs.Read.{block-read, not-hex-read}
+use Rattle.cdi_replay.proofs.answer_line.Statement.{statement}
+use Rattle.cdi_replay.proofs.answer_line.Tie as tie
 
 -- a block that is read stands at the front of the buffer
 module _ (c : tie.After-read) where

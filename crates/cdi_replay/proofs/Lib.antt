@@ -1,0 +1,7 @@
+pub mod Printed
+pub mod Read
+pub mod Lines
+pub mod Answering
+pub mod Laws
+pub mod Pieces
+pub mod Theorem

@@ -1,0 +1,112 @@
+// The replay program's work without its reading and printing: the lines of an input executed on a module one after the other, and
+// the text that is printed for them. Document 01, "Examples".
+ghost use mathlib.Core.Path.{_≡_};
+ghost use Prim.Native.Nat.{_≤_};
+ghost use lib.ListN.{length};
+ghost use Rattle.logic.specs.Written.{written};
+ghost use Rattle.hex_text.specs.Hex.{hexLine};
+ghost use Rattle.cdi_module.specs.Module.{responseMax, step, resultOf};
+ghost use Rattle.cdi_replay.specs.Replay.{blockStep, outcomeText, resultText, lineText, lineState, linesText};
+ghost use Rattle.cdi_replay.specs.Answered.{blockMax, printedMax, Prints, answered, progress};
+use cdi_module::RESPONSE_MAX;
+use cdi_state::ModuleState;
+use hex_text::HexLine;
+use hex_text::LINE_FEED;
+use hex_text::LINE_MAX;
+use refusal::Outcome;
+
+// The most bytes that a line of hex holds: each but the last takes two digits and a space.
+const BLOCK_MAX: usize = (LINE_MAX + 1) / 3;
+
+// The longest line that is printed is that of the longest response, whose last byte has a line feed for the space. No line is
+// answered in less room.
+pub const PRINTED_MAX: usize = 3 * RESPONSE_MAX;
+
+// What one line gives: the state after it, and how many bytes of the output it takes.
+struct LineAnswer {
+    state: ModuleState,
+    printed: usize,
+}
+
+// What came of the lines of an input: the state after them, how many of the input's bytes they are, with their line feeds, and how
+// many bytes of the output are printed for them.
+#[repr(C)]
+pub struct Progress {
+    pub state: ModuleState,
+    pub consumed: usize,
+    pub written: usize,
+}
+
+// Writes what came of a block. A response is never empty, so a length of 0 is a refusal.
+fn write_outcome(outcome: Outcome, response: &[u8], out: &mut [u8]) -> usize
+    requires { ⌜ (outcome .length ≤ length (now response)) × (length (now response) ≡ responseMax) × (printedMax ≤ length (now out)) ⌝ }
+    ensures { λ r. ⌜ Prints (outcomeText (outcome .refusal) (outcome .length) (now (response .entry))) (now (out .entry)) (now (out .exit)) r ⌝ }
+{
+    let length = outcome.length;
+    if length == 0 {
+        return hex_text::write_refused(outcome.refusal, out);
+    }
+    hex_text::write_block(&response[0..length], out)
+}
+
+// Executes a block, and writes what came of it over the front of `out`.
+fn answer_block(state: ModuleState, block: &[u8], out: &mut [u8]) -> LineAnswer
+    requires { ⌜ printedMax ≤ length (now out) ⌝ }
+    ensures { λ r. ⌜ (r .state ≡ step state (blockStep (now (block .entry))))
+        × Prints (resultText (resultOf state (blockStep (now (block .entry))))) (now (out .entry)) (now (out .exit)) (r .printed) ⌝ }
+{
+    let mut response = [0u8; RESPONSE_MAX];
+    let execution = cdi_module::execute(state, block, &mut response);
+    let outcome = execution.outcome;
+    let printed = write_outcome(outcome, &response, out);
+    let after = execution.state;
+    LineAnswer {
+        state: after,
+        printed,
+    }
+}
+
+// Answers one line, given without its line feed, over the front of `out`. `block` is room for the line's bytes.
+fn answer_line(state: ModuleState, line: &[u8], block: &mut [u8], out: &mut [u8]) -> LineAnswer
+    requires { ⌜ (length (now block) ≡ blockMax) × (printedMax ≤ length (now out)) ⌝ }
+    ensures { λ r. ⌜ (r .state ≡ lineState state (hexLine (now (line .entry))))
+        × Prints (lineText state (hexLine (now (line .entry)))) (now (out .entry)) (now (out .exit)) (r .printed) ⌝ }
+{
+    let read = hex_text::read_line(line, block);
+    match read {
+        HexLine::Block(n) => answer_block(state, &block[0..n], out),
+        HexLine::NotHex => {
+            let printed = hex_text::write_not_hex(out);
+            LineAnswer { state, printed }
+        }
+        HexLine::NoRoom => {
+            let printed = hex_text::write_not_hex(out);
+            LineAnswer { state, printed }
+        }
+    }
+}
+
+// Answers the lines of `input` that a line feed ends, from the first on, over the front of `output`, each as long as there is room
+// for the longest. What stands behind the last line feed is left, and so are the bytes of `output` behind the text.
+pub fn replay_lines(state: ModuleState, input: &[u8], output: &mut [u8]) -> Progress
+    ensures { λ r. ⌜ (r ≡ progress state (answered state (now (input .entry)) (length (now (output .entry)))))
+        × (now (output .exit) ≡ written (now (output .entry)) (linesText state (answered state (now (input .entry)) (length (now (output .entry)))))) ⌝ }
+{
+    let mut current = state;
+    let mut used = 0;
+    let mut start = 0;
+    let mut block = [0u8; BLOCK_MAX];
+    let mut end = bytes::scan::find(input, start, input.len(), LINE_FEED);
+    while end < input.len() && output.len() - used >= PRINTED_MAX {
+        let answer = answer_line(current, &input[start..end], &mut block, &mut output[used..]);
+        current = answer.state;
+        used += answer.printed;
+        start = end + 1;
+        end = bytes::scan::find(input, start, input.len(), LINE_FEED);
+    }
+    Progress {
+        state: current,
+        consumed: start,
+        written: used,
+    }
+}

@@ -1,0 +1,70 @@
+-- One turn: what `replay_lines` answers of the characters that are there, and what it leaves of them.
+-- Assumes nothing.
+use Prim.Native.Nat.{ℕ, _+_, _-_, _≤_}
+use mathlib.Core.Path.{_≡_, sym, ap, _∙_}
+use mathlib.Core.Bool.{Bool, not, Bool·not-not}
+use mathlib.Core.List.{List}
+use native.Mathlib.Nat.{sub-zero}
+use native.Mathlib.Omega.{arith}
+use lib.ListN.{length, take, drop, length-append, length-drop}
+use lib.Seq.{take-add, drop-at, drop-drop, length-take-le}
+use Rattle.logic.specs.Written.{written}
+use Rattle.logic.proofs.Written.{written-front}
+use Rattle.cdi_state.specs.declared.ModuleState.{ModuleState}
+use Rattle.cdi_replay.specs.declared.Progress.{Progress}
+use Rattle.cdi_replay.specs.Replay.{linesText, linesState}
+use Rattle.cdi_replay.specs.Answered.{printedMax, unfinished, withLineFeeds, answered, progress}
+use Rattle.cdi_replay.specs.Session.{keptOf}
+use Rattle.cdi_replay.proofs.Laws.{consumed-within, unfinished-left}
+use Rattle.replay.specs.Program.{bufferSize, part, Refilled, answers, leftBehind}
+
+-- a part of a buffer, once some of it is behind
+part-behind : (l : List ℕ) (from end n : ℕ) → from + n ≤ end → end ≤ length l → part (from + n) end l ≡ drop n (part from end l)
+part-behind l from end n within inside =
+    let k = end - (from + n) in
+    let size = length-drop from l in
+    let width : end - from ≡ n + k = omega arith in
+    rw (width, take-add n k (drop from l))
+    (rw (← drop-drop n from l) (sym (drop-at (take n (drop from l)) (take k (drop n (drop from l))) n (length-take-le n (drop from l) (omega arith)))))
+
+-- what is known once the characters from `from` as far as `end` are answered: all that is consumed was there, the text lies in the
+-- output buffer from its first byte on, and what is left is a line that is not finished where there is room for one more
+pub record Learnt (state : ModuleState) (input : List ℕ) (from end : ℕ) (output : List ℕ) (r : Progress) : Type 0 where
+  pub start-within : from + r .consumed ≤ end
+  pub text-within : r .written ≤ length output
+  pub state-after : r .state ≡ linesState state (answers state (part from end input))
+  pub printed : take (length (linesText state (answers state (part from end input)))) output ≡ linesText state (answers state (part from end input))
+  pub left : part (from + r .consumed) end input ≡ leftBehind state (part from end input)
+  pub not-finished : printedMax ≤ length output - r .written → leftBehind state (part from end input) ≡ unfinished (part from end input)
+
+-- that is what the contract of `replay_lines` says, in an output buffer of the program's size
+pub learnt : (state : ModuleState) (input before after : List ℕ) (from end : ℕ) (r : Progress) → from ≤ end → end ≤ length input
+    → length before ≡ bufferSize → length after ≡ length before
+    → r ≡ progress state (answered state (part from end input) (length before))
+    → after ≡ written before (linesText state (answered state (part from end input) (length before)))
+    → Learnt state input from end after r
+unfolding written
+learnt state input before after from end r ordered inside size same result buffer =
+    let chars = part from end input in
+    let ls = answers state chars in
+    let text = linesText state ls in
+    let lines-answered : answered state chars (length before) ≡ ls = ap (answered state chars) size in
+    let told : r ≡ progress state ls = result ∙ ap (progress state) lines-answered in
+    let placed : after ≡ written before text = buffer ∙ ap (λ (k : List (List ℕ)). written before (linesText state k)) lines-answered in
+    let consumed : r .consumed ≡ length (withLineFeeds ls) = ap (λ (p : Progress). p .consumed) told in
+    let count : r .written ≡ length text = ap (λ (p : Progress). p .written) told in
+    let width = length-take-le (end - from) (drop from input) (omega (arith, length-drop from input)) in
+    let within : from + r .consumed ≤ end = omega (arith, consumed-within state chars bufferSize) in
+    record {
+      start-within = within;
+      text-within = omega (arith, ap length placed, length-append text (drop (length text) before));
+      state-after = ap (λ (p : Progress). p .state) told;
+      printed = ap (take (length text)) placed ∙ written-front before text;
+      left = part-behind input from end (r .consumed) within inside ∙ ap (λ (n : ℕ). drop n chars) consumed;
+      not-finished = λ room. unfinished-left state chars bufferSize (omega (arith, count));
+    }
+
+-- what is read stands from the buffer's first place on
+pub refilled : (kept left buffer : List ℕ) (end : ℕ) (ended failed : Bool) → left ≡ kept
+    → Refilled (keptOf left) (take end buffer) ended failed → Refilled (keptOf kept) (part 0 end buffer) ended (not (not failed))
+refilled kept left buffer end ended failed e h = rw (← e, sub-zero, Bool·not-not failed) h

@@ -1,0 +1,43 @@
+-- What the program keeps from one turn to the next, around the text that `cdi_replay` has for an input.
+use Prim.Native.Nat.{ℕ, _-_}
+use mathlib.Core.Path.{_≡_}
+use mathlib.Core.Bool.{Bool, true, false, not}
+use mathlib.Core.Logic.{_⊎_}
+use mathlib.Core.List.{List}
+use lib.ListN.{length, take, drop}
+use Rattle.cdi_state.specs.declared.ModuleState.{ModuleState}
+use Rattle.cdi_replay.specs.Replay.{linesText, linesState}
+use Rattle.cdi_replay.specs.Answered.{unfinished, withLineFeeds, answered}
+use Rattle.cdi_replay.specs.Session.{keptOf, lastLine}
+
+-- the input buffer and the output buffer
+abbrev pub bufferSize : ℕ
+bufferSize = 65536
+
+-- the characters of a buffer from one place as far as another
+abbrev pub part : ℕ → ℕ → List ℕ → List ℕ
+part from end buffer = take (end - from) (drop from buffer)
+
+-- the characters that are there once more is read: what was kept stands before them, alone where the read failed, and with the line
+-- feed that it lacks where the input has ended
+pub record Refilled (kept chars : List ℕ) (ended failed : Bool) : Type 0 where
+  pub front : take (length kept) chars ≡ kept
+  pub last : ended ≡ true → chars ≡ lastLine kept
+  pub none : failed ≡ true → (chars ≡ kept) × (ended ≡ false)
+
+-- the lines of some characters that one turn answers, and the characters behind them
+abbrev pub answers : ModuleState → List ℕ → List (List ℕ)
+answers state chars = answered state chars bufferSize
+
+abbrev pub leftBehind : ModuleState → List ℕ → List ℕ
+leftBehind state chars = drop (length (withLineFeeds (answers state chars))) chars
+
+-- One turn, from a state and characters that are not answered to others. The text of the lines that are answered stands at the front
+-- of the output buffer, where it is printed. What they leave is there still; or it is a line that is not finished, and more was read
+-- behind what is kept of it, where a read that fails ends the program.
+pub record Turned (state : ModuleState) (chars : List ℕ) (ended : Bool) (output : List ℕ)
+    (after : ModuleState) (rest : List ℕ) (endedAfter more : Bool) : Type 0 where
+  pub printed : take (length (linesText state (answers state chars))) output ≡ linesText state (answers state chars)
+  pub state-after : after ≡ linesState state (answers state chars)
+  pub left : ((rest ≡ leftBehind state chars) × (endedAfter ≡ ended))
+      ⊎ ((ended ≡ false) × (leftBehind state chars ≡ unfinished chars) × Refilled (keptOf (leftBehind state chars)) rest endedAfter (not more))
