@@ -1,6 +1,6 @@
 #!/usr/bin/env python3
-"""Compares what no entry of the C library shows with reference.py, call by call: lines of hex, and
-an analog input's offset as a number.
+"""Compares what no entry of the C library shows with reference.py, call by call: lines of hex, the
+lines of a log that are answered in a buffer, and an analog input's offset as a number.
 
 Builds the crate `leaf_probe` as a shared library and calls its functions over the examples of
 document 01, over edges and over random inputs of a fixed seed. Every buffer that is handed over
@@ -16,7 +16,8 @@ sys.dont_write_bytecode = True  # leaves no files beside the tests
 
 import reference
 from library import ANALOG_INPUT, BYTE, POINTER, SIZE, Calls, build, run_test, struct
-from payloads import WRAPS
+from payloads import WRAPS, likely_payload
+from states import STATE, any_state, packed, random_state, unpacked
 
 SEED = 20240001
 
@@ -29,7 +30,26 @@ SIGNATURES = {
     "probe_write_block": (SIZE, (POINTER, SIZE, POINTER, SIZE)),
     "probe_write_refused": (SIZE, (BYTE, POINTER, SIZE)),
     "probe_write_not_hex": (SIZE, (POINTER, SIZE)),
+    "probe_replay_lines": (
+        struct(state=STATE, consumed=SIZE, written=SIZE),
+        (STATE, POINTER, SIZE, POINTER, SIZE),
+    ),
 }
+
+LONGEST_PRINTED = 66  # characters of the longest response's line: 22 bytes of three each
+
+
+def replayed_lines(state, log, room):
+    """State afterwards, consumed characters and text of the lines that a line feed ends, from the
+    first on, each as long as there is room for any line."""
+    consumed, text = 0, b""
+    for line in log.split(b"\n")[:-1]:
+        if room - len(text) < LONGEST_PRINTED:
+            break
+        state, printed = reference.replay_line(state, line)
+        consumed += len(line) + 1
+        text += printed.encode("ascii")
+    return state, consumed, text
 
 
 class Comparison(Calls):
@@ -76,6 +96,20 @@ class Comparison(Calls):
 
     def write_not_hex(self, out):
         return self.written("probe_write_not_hex", (), reference.format_not_hex(), out)
+
+    def replay_lines(self, state, log, out):
+        after, consumed, text = replayed_lines(state, log, len(out))
+        expected = packed(after), consumed, len(text), text + out[len(text) :]
+        given = STATE.from_buffer_copy(packed(state))
+        progress = self.library.probe_replay_lines(
+            given, self.input.give(log), len(log), self.output.give(out), len(out)
+        )
+        counts = progress.consumed, progress.written
+        came = bytes(progress.state), *counts, self.output.content()
+        inputs = {"state": packed(state), "log": log, "out": out}
+        self.called("probe_replay_lines", expected, came, **inputs)
+        self.same("the state that was given", packed(state), bytes(given), **inputs)
+        return came
 
 
 # ---- Examples of document 01 -----------------------------------------------------------------
@@ -239,6 +273,67 @@ def check_written_words(compare, rng):
             compare.write_refused(refusal, rng.randbytes(room))
 
 
+# ---- Logs in a buffer ------------------------------------------------------------------------
+
+
+def log_line(rng):
+    """A line of a log without its line feed: mostly a command, also a damaged or a hostile one."""
+    payload = likely_payload(rng)
+    wake = rng.choice((0, 0, 0, 1, 16)) * b"\xff"
+    block = b"\x80" + wake + b"\x55" + bytes([0x80 + len(payload)]) + payload
+    hostile = (
+        b"",
+        line_of(block[: rng.randrange(len(block))]),
+        line_of(rng.randbytes(rng.randrange(201))),
+        line_of(block).lower(),
+        line_of(block) + rng.choice((b" ", b"\r", b"\x00", b"\xff")),
+        rng.randbytes(rng.randrange(30)).replace(b"\n", b"\r"),
+        line_of(rng.randbytes(250))[: rng.choice((*range(595, 606), 700))],
+    )
+    return line_of(block) if rng.random() < 0.7 else rng.choice(hostile)
+
+
+def log_of(rng, count):
+    """A log of so many lines; the last one has its line feed, or lacks it, or is cut."""
+    log = b"".join(log_line(rng) + b"\n" for _ in range(count))
+    return rng.choice((log, log, log[:-1], log[: rng.randrange(len(log) + 1)]))
+
+
+def check_log_rooms(compare, rng):
+    """Buffers of every size up to that of some lines, on logs that fill them and that do not."""
+    for room in range(400):
+        for count in (0, 1, 2, 7, 40):
+            compare.replay_lines(any_state(rng), log_of(rng, count), rng.randbytes(room))
+    state = random_state(rng)
+    whole = b"".join(line_of(b"\x80\x55\x82\x01\x01") + b"\n" for _ in range(6))
+    for room, size in itertools.product(range(60, 140), range(0, len(whole) + 1, 5)):
+        compare.replay_lines(state, whole[:size], rng.randbytes(room))
+
+
+def check_log_bytes(compare, rng):
+    """Logs of few bytes, with line feeds anywhere, and of random bytes."""
+    for size in range(5):
+        for letters in itertools.product(b"\n8\x00", repeat=size):
+            compare.replay_lines(any_state(rng), bytes(letters), rng.randbytes(200))
+    for _ in range(300):
+        log = bytes(rng.choices(b"0123456789ABCDEF  \n\r\x00\xff", k=rng.randrange(400)))
+        compare.replay_lines(any_state(rng), log, rng.randbytes(rng.randrange(600)))
+
+
+def check_long_logs(compare, rng):
+    """Logs that are answered in several buffers, each from the state that the last one left."""
+    for room in (LONGEST_PRINTED - 1, LONGEST_PRINTED, 67, 131, 132, 133, 1000, 4096, 65536):
+        state, rest = random_state(rng), log_of(rng, 300)
+        while True:
+            after, consumed, _, _ = compare.replay_lines(state, rest, rng.randbytes(room))
+            state = unpacked(after)
+            rest = rest[consumed:]
+            if consumed == 0:
+                break
+        ended = b"\n" not in rest
+        compare.same("whether all lines are answered", room >= LONGEST_PRINTED, ended, rest=rest)
+
+
 # ---- The run ---------------------------------------------------------------------------------
 
 CHECKS = (
@@ -250,6 +345,9 @@ CHECKS = (
     ("changed lines", check_changed_lines),
     ("printed blocks", check_written_blocks),
     ("printed words", check_written_words),
+    ("logs by buffer size", check_log_rooms),
+    ("logs of any bytes", check_log_bytes),
+    ("long logs", check_long_logs),
 )
 
 

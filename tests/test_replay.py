@@ -2,11 +2,13 @@
 """Compares the replay program with reference.py, byte by byte, on generated logs.
 
 Each case starts the program anew, from the factory state, with the log as a file or through a
-pipe. The whole output, an exit status of 0 and an empty standard error are compared. The first
-difference ends the run with exit status 1. Another program may be named as the argument.
+pipe. The whole output, an exit status of 0 and standard error are compared, which is empty but
+where a read or a write fails. The first difference ends the run with exit status 1. Another program
+may be named as the argument.
 """
 
 import collections
+import errno
 import fcntl
 import itertools
 import os
@@ -19,6 +21,7 @@ import sys
 import tempfile
 import termios
 import time
+import tty
 
 sys.dont_write_bytecode = True  # leaves no files beside the tests
 
@@ -92,6 +95,29 @@ def run_on_pieces(program, log, size):
         return Run(output.read(), errors.read(), status)
 
 
+def run_on_descriptors(program, given, output):
+    """Runs the program on two open descriptors, and closes them; what came through the output is
+    empty unless that is a pipe."""
+    try:
+        done = subprocess.run(
+            [program], stdin=given, stdout=output, stderr=subprocess.PIPE, timeout=PATIENCE
+        )
+    finally:
+        for descriptor in {given, output} - {subprocess.PIPE}:
+            os.close(descriptor)
+    return Run(done.stdout or b"", done.stderr, done.returncode)
+
+
+def broken_input(log):
+    """A descriptor that gives the log, and then an error and not its end: a terminal whose other
+    side was closed."""
+    terminal, other_side = os.openpty()
+    tty.setraw(other_side)
+    os.write(other_side, log)
+    os.close(other_side)
+    return terminal
+
+
 # ---- Comparing -------------------------------------------------------------------------------
 
 
@@ -157,12 +183,17 @@ class Comparison:
             raise Problem("the reference: " + difference(name, log, expected, by_reference))
         self.compare(name, log, expected, run_on_file(self.program, log))
 
-    def compare(self, name, log, expected, run):
+    def failing(self, name, log, expected, run, what, error):
+        """Compares one run in which a read or a write fails, and what is said of it."""
+        message = f"replay: standard {what}: {os.strerror(error)}\n"
+        self.compare(name, log, expected, run, message.encode("ascii"))
+
+    def compare(self, name, log, expected, run, errors=b""):
         """Raises a Problem if a run differs in any respect; otherwise it counts."""
         if run.output != expected:
             raise Problem(difference(name, log, expected, run.output))
-        if run.errors != b"":
-            raise Problem(f"standard error is not empty in {name}: {show(run.errors)}")
+        if run.errors != errors:
+            raise Problem(f"standard error in {name}: {show(run.errors)} for {show(errors)}")
         if run.status != 0:
             raise Problem(f"exit status {run.status} in {name}")
         self.count(log, run.output)
@@ -911,6 +942,45 @@ def check_pieces(compare, rng):
     compare.pieces("a large log", large, (599, 4095, 4096, 65535, 65536))
 
 
+# ---- Reads and writes that fail --------------------------------------------------------------
+
+
+def check_failing_reads(compare, rng):
+    """A read that fails ends the program: the lines before it are answered, and what is left behind
+    the last line feed is not taken for a last line."""
+    what = "input cannot be read"
+    folder = os.open("/", os.O_RDONLY)
+    run = run_on_descriptors(compare.program, folder, subprocess.PIPE)
+    compare.failing("a folder as the input", b"", b"", run, what, errno.EISDIR)
+    whole = log_of([random_line(rng) for _ in range(20)])
+    rests = (b"", b"8", command(READ, 0x15), b" ", hex_text(rng, 600), hex_text(rng, 700))
+    for lines, rest in itertools.product((b"", b"\n", whole), rests):
+        log = lines + rest
+        run = run_on_descriptors(compare.program, broken_input(log), subprocess.PIPE)
+        name = f"an input that breaks off behind {len(log)} bytes"
+        compare.failing(name, log, reference.replay(lines), run, what, errno.EIO)
+
+
+def check_failing_writes(compare, rng):
+    """A write that fails ends the program; without a line nothing is written."""
+    what = "output cannot be written"
+    large = log_of([random_line(rng) for _ in range(5000)])
+    for path, flag, error in (
+        ("/dev/full", os.O_WRONLY, errno.ENOSPC),
+        ("/dev/null", os.O_RDONLY, errno.EBADF),
+    ):
+        for log in (b"\n", command(READ, 0x15), large):
+            with tempfile.TemporaryFile() as given:
+                given.write(log)
+                given.seek(0)
+                output = os.open(path, flag)
+                run = run_on_descriptors(compare.program, os.dup(given.fileno()), output)
+            compare.failing(f"{path} as the output", log, b"", run, what, error)
+        output = os.open(path, flag)
+        run = run_on_descriptors(compare.program, os.open("/dev/null", os.O_RDONLY), output)
+        compare.compare(f"no line, and {path} as the output", b"", b"", run)
+
+
 # ---- The run ---------------------------------------------------------------------------------
 
 CHECKS = (
@@ -941,6 +1011,8 @@ CHECKS = (
     ("sizes of the output", check_output_sizes),
     ("random sequences", check_random_sequences),
     ("pieces", check_pieces),
+    ("reads that fail", check_failing_reads),
+    ("writes that fail", check_failing_writes),
 )
 
 LEAST_SEEN = 100  # of each refusal

@@ -4,8 +4,13 @@ ghost use mathlib.Core.Path.{_≡_};
 ghost use lib.ListN.{length};
 ghost use Rattle.cdi_state.specs.State.{inputOffset};
 ghost use Rattle.hex_text.specs.Hex.{hexLine, lineAnswer, lineWritten, hexText, refusedText, notHexText, printed, lengthIn, writtenIn};
+ghost use Rattle.logic.specs.Written.{written};
+ghost use Rattle.cdi_replay.specs.Replay.{linesText};
+ghost use Rattle.cdi_replay.specs.Answered.{answered, progress};
 ghost use Rattle.leaf_probe.specs.Probe.{lineProbe};
+use cdi_replay::Progress;
 use cdi_state::AnalogInput;
+use cdi_state::ModuleState;
 use hex_text::HexLine;
 
 // The answers to a line: a block, ...
@@ -73,4 +78,17 @@ pub extern "C" fn probe_write_not_hex(out: &mut [u8]) -> usize
     ensures { λ r. ⌜ (r ≡ lengthIn (now (out .entry)) (printed notHexText)) × (now (out .exit) ≡ writtenIn (now (out .entry)) (printed notHexText)) ⌝ }
 {
     hex_text::write_not_hex(out)
+}
+
+// Answers the whole lines of `input` from a state on, over the front of `output`.
+#[no_mangle]
+pub extern "C" fn probe_replay_lines(
+    state: ModuleState,
+    input: &[u8],
+    output: &mut [u8],
+) -> Progress
+    ensures { λ r. ⌜ (r ≡ progress state (answered state (now (input .entry)) (length (now (output .entry)))))
+        × (now (output .exit) ≡ written (now (output .entry)) (linesText state (answered state (now (input .entry)) (length (now (output .entry)))))) ⌝ }
+{
+    cdi_replay::replay_lines(state, input, output)
 }
