@@ -4,7 +4,7 @@
 use Prim.Native.Nat.{ℕ, zero, suc, _+_, _-_, _<_, _≤_}
 use mathlib.Core.Path.{_≡_, refl, sym, ap, _∙_}
 use mathlib.Core.Bool.{true, false, false≢true}
-use mathlib.Core.List.{List, [], _∷_, _++_, append-assoc}
+use mathlib.Core.List.{List, [], _∷_, _++_, append-nil, append-assoc}
 use native.Mathlib.Omega.{arith}
 use borrow.Author.Tests.{eqb-true, le-leb, leb-true, leb-false}
 use lib.Dec.{eqb, leb}
@@ -18,19 +18,21 @@ use Rattle.cdi_state.specs.declared.ModuleState.{ModuleState}
 use Rattle.cdi_replay.specs.Replay.{longer, lines, lineText, lineState, linesText, linesState, replayedFrom, stateAtEnd}
 use Rattle.cdi_replay.specs.Answered.{printedMax, hasLineFeed, wholePart, unfinished, withLineFeeds, fitting, answered}
 use Rattle.cdi_replay.specs.Session.{keptMax, keptOf, lastLine}
-use Rattle.cdi_replay.proofs.Lines.{inside, first-line, first-whole-line, no-whole-line, whole-and-unfinished, lengthened, part-lengthens, lengthened-first, lengthened-alone, last-line-feed}
+use Rattle.cdi_replay.proofs.Lines.{inside, first-line, first-whole-line, no-whole-line, whole-and-unfinished, unfinished-behind, lengthened, part-lengthens, lengthened-first, lengthened-alone, last-line-feed}
 
 -- ---- pieces
--- the text of some lines at the input's front, and then that of the input behind them, is the text of the input; so of the state
-abbrev Continues : ModuleState → List ℕ → List (List ℕ) → Type 0
-Continues s input ls =
-    (replayedFrom s input ≡ linesText s ls ++ replayedFrom (linesState s ls) (drop (length (withLineFeeds ls)) input))
-    × (stateAtEnd s input ≡ stateAtEnd (linesState s ls) (drop (length (withLineFeeds ls)) input))
+-- with some lines at the input's front answered, the rest of the input continues to the same text, the same state and the same
+-- unfinished line, whatever follows the input
+abbrev Continues : ModuleState → List ℕ → List ℕ → List (List ℕ) → Type 0
+Continues s input later ls =
+    (replayedFrom s (input ++ later) ≡ linesText s ls ++ replayedFrom (linesState s ls) (drop (length (withLineFeeds ls)) input ++ later))
+    × (stateAtEnd s (input ++ later) ≡ stateAtEnd (linesState s ls) (drop (length (withLineFeeds ls)) input ++ later))
+    × (unfinished (drop (length (withLineFeeds ls)) input) ≡ unfinished input)
 
-continues : (xs : List (List ℕ)) (s : ModuleState) (input : List ℕ) (room : ℕ) → lines (wholePart input) ≡ xs → Continues s input (fitting s room xs)
+continues : (xs : List (List ℕ)) (s : ModuleState) (input later : List ℕ) (room : ℕ) → lines (wholePart input) ≡ xs → Continues s input later (fitting s room xs)
 unfolding fitting linesText linesState withLineFeeds
-continues [] s input room e = (refl, refl)
-continues (l ∷ ls) s input room e =
+continues [] s input later room e = (refl, refl, refl)
+continues (l ∷ ls) s input later room e =
     by-cases (leb printedMax room)
     (λ fits.
     by-cases (hasLineFeed input)
@@ -43,24 +45,39 @@ continues (l ∷ ls) s input room e =
     let same : l ≡ take i input = cc in
     let more : lines (wholePart next) ≡ ls = cc in
     let rest = fitting after left ls in
-    let first : lines input ≡ l ∷ lines next = first-line input some ∙ ap (λ (k : List ℕ). k ∷ lines next) (sym same) in
+    let first : lines (input ++ later) ≡ l ∷ lines (next ++ later) =
+    first-line input later some ∙ ap (λ (k : List ℕ). k ∷ lines (next ++ later)) (sym same) in
     let size : length l ≡ i = ap length same ∙ length-take-le i input (omega (arith, inside input some)) in
-    let width : length (l ++ lineFeed ∷ withLineFeeds rest) ≡ suc i + length (withLineFeeds rest) = omega (arith, length-append l (lineFeed ∷ withLineFeeds rest)) in
+    let width : length (l ++ lineFeed ∷ withLineFeeds rest) ≡ suc i + length (withLineFeeds rest) =
+    omega (arith, length-append l (lineFeed ∷ withLineFeeds rest)) in
     let behind : drop (length (l ++ lineFeed ∷ withLineFeeds rest)) input ≡ drop (length (withLineFeeds rest)) next =
     ap (λ (k : ℕ). drop k input) width ∙ sym (drop-drop (length (withLineFeeds rest)) (suc i) input) in
-    let then = continues ls after next left more in
+    let then = continues ls after next later left more in
+    let text = printed (lineText s (hexLine l)) in
     simp fits
-    (rw (first, behind) (ap (λ (t : List ℕ). printed (lineText s (hexLine l)) ++ t) (then .0) ∙ sym (append-assoc (printed (lineText s (hexLine l))) _ _), then .1)))
+    (rw (first, behind) (ap (λ (t : List ℕ). text ++ t) (then .0) ∙ sym (append-assoc text _ _), then .1, then .2 ∙ unfinished-behind input some)))
     (λ none. let never = no-whole-line input none in absurd (let no : _≡_ {A = ℕ} 0 1 = cc in omega arith)))
-    (λ short. simp short (refl, refl))
+    (λ short. simp short (refl, refl, refl))
 
--- whatever the room, what is printed now and what is printed later for the input behind it is the text of the whole input, and the
--- state at its end is the same: nothing is lost
-pub pieces : (s : ModuleState) (input : List ℕ) (room : ℕ) →
-    let ls = answered s input room in
-    (replayedFrom s input ≡ linesText s ls ++ replayedFrom (linesState s ls) (drop (length (withLineFeeds ls)) input))
-    × (stateAtEnd s input ≡ stateAtEnd (linesState s ls) (drop (length (withLineFeeds ls)) input))
-pieces s input room = continues (lines (wholePart input)) s input room refl
+module _ (s : ModuleState) (input : List ℕ) (room : ℕ) where
+  -- whatever the room and whatever follows, what is printed now and what is printed later for the input behind it is the text of the
+  -- whole input, and the state at its end is the same: nothing is lost
+  pub pieces-then : (later : List ℕ) →
+      let ls = answered s input room in
+      (replayedFrom s (input ++ later) ≡ linesText s ls ++ replayedFrom (linesState s ls) (drop (length (withLineFeeds ls)) input ++ later))
+      × (stateAtEnd s (input ++ later) ≡ stateAtEnd (linesState s ls) (drop (length (withLineFeeds ls)) input ++ later))
+  pieces-then later = let c = continues (lines (wholePart input)) s input later room refl in (c .0, c .1)
+
+  -- so of the input alone
+  pub pieces :
+      let ls = answered s input room in
+      (replayedFrom s input ≡ linesText s ls ++ replayedFrom (linesState s ls) (drop (length (withLineFeeds ls)) input))
+      × (stateAtEnd s input ≡ stateAtEnd (linesState s ls) (drop (length (withLineFeeds ls)) input))
+  pieces = simp append-nil at (pieces-then [])
+
+  -- the line that is left unfinished stays so
+  pub unfinished-kept : unfinished (drop (length (withLineFeeds (answered s input room))) input) ≡ unfinished input
+  unfinished-kept = continues (lines (wholePart input)) s input [] room refl .2
 
 -- ---- progress
 line-has-some : (l : List ℕ) (ls : List (List ℕ)) → 0 < length (withLineFeeds (l ∷ ls))

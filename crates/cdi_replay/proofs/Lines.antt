@@ -34,13 +34,13 @@ inside (c ∷ chars) some =
     by-cases (eqb c lineFeed) (λ t. simp t (omega arith)) (λ f. simp f (omega (arith, inside chars (simp f at some))))
 
 -- ---- the first line
--- it ends before the first line feed, whether all lines are asked for ...
-pub first-line : (chars : List ℕ) → hasLineFeed chars ≡ true
-    → lines chars ≡ take (indexOf lineFeed chars) chars ∷ lines (drop (suc (indexOf lineFeed chars)) chars)
+-- it ends before the first line feed, whether all lines are asked for, with whatever follows, ...
+pub first-line : (chars later : List ℕ) → hasLineFeed chars ≡ true
+    → lines (chars ++ later) ≡ take (indexOf lineFeed chars) chars ∷ lines (drop (suc (indexOf lineFeed chars)) chars ++ later)
 unfolding lines indexOf indexAfter
-first-line [] some = absurd (false≢true some)
-first-line (c ∷ chars) some =
-    by-cases (eqb c lineFeed) (λ t. simp t) (λ f. simp (f, first-line chars (simp f at some)))
+first-line [] later some = absurd (false≢true some)
+first-line (c ∷ chars) later some =
+    by-cases (eqb c lineFeed) (λ t. simp t) (λ f. simp (f, first-line chars later (simp f at some)))
 
 -- ... or the whole ones
 pub first-whole-line : (chars : List ℕ) → hasLineFeed chars ≡ true
@@ -68,6 +68,28 @@ unfolding unfinished
 unfinished-has-none [] = refl
 unfinished-has-none (c ∷ chars) =
     by-cases (hasLineFeed (c ∷ chars)) (λ t. rw t (unfinished-has-none chars)) (λ f. rw f f)
+
+-- the unfinished line is that of what follows the first line
+pub unfinished-behind : (chars : List ℕ) → hasLineFeed chars ≡ true → unfinished (drop (suc (indexOf lineFeed chars)) chars) ≡ unfinished chars
+unfolding unfinished indexOf indexAfter
+unfinished-behind [] some = absurd (false≢true some)
+unfinished-behind (c ∷ chars) some =
+    by-cases (eqb c lineFeed) (λ t. simp t)
+    (λ f. let more : hasLineFeed chars ≡ true = simp f at some in simp (f, more) (unfinished-behind chars more))
+
+-- a last line that got its line feed is finished
+pub last-line-finished : (line : List ℕ) → hasLineFeed line ≡ false → unfinished (lastLine line) ≡ []
+unfolding unfinished
+last-line-finished [] none = refl
+last-line-finished (c ∷ line) none = ended-finished (c ∷ line)
+  where
+    has : (l : List ℕ) → hasLineFeed (l ++ lineFeed ∷ []) ≡ true
+    has [] = refl
+    has (d ∷ l) = by-cases (eqb d lineFeed) (λ t. simp t) (λ f. simp f (has l))
+
+    ended-finished : (l : List ℕ) → unfinished (l ++ lineFeed ∷ []) ≡ []
+    ended-finished [] = refl
+    ended-finished (d ∷ l) = rw (has (d ∷ l)) (ended-finished l)
 
 longer-apart : (c d : ℕ) (ls more : List (List ℕ)) → longer c (longer d ls ++ more) ≡ longer c (longer d ls) ++ more
 longer-apart c d [] more = refl

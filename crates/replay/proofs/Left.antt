@@ -1,8 +1,8 @@
 -- One turn: what `replay_lines` answers of the characters that are there, and what it leaves of them.
 -- Assumes nothing.
 use Prim.Native.Nat.{ℕ, _+_, _-_, _≤_}
-use mathlib.Core.Path.{_≡_, sym, ap, _∙_}
-use mathlib.Core.Bool.{Bool, not, Bool·not-not}
+use mathlib.Core.Path.{_≡_, refl, sym, ap, _∙_}
+use mathlib.Core.Bool.{Bool, true, false, not, _&&_, _||_, false≢true}
 use mathlib.Core.List.{List}
 use native.Mathlib.Nat.{sub-zero}
 use native.Mathlib.Omega.{arith}
@@ -66,5 +66,11 @@ learnt state input before after from end r ordered inside size same result buffe
 
 -- what is read stands from the buffer's first place on
 pub refilled : (kept left buffer : List ℕ) (end : ℕ) (ended failed : Bool) → left ≡ kept
-    → Refilled (keptOf left) (take end buffer) ended failed → Refilled (keptOf kept) (part 0 end buffer) ended (not (not failed))
-refilled kept left buffer end ended failed e h = rw (← e, sub-zero, Bool·not-not failed) h
+    → Refilled (keptOf left) (take end buffer) ended failed → Refilled (keptOf kept) (part 0 end buffer) ended failed
+refilled kept left buffer end ended failed e h = rw (← e, sub-zero) h
+
+-- without another turn the output had room, and the input has ended
+pub at-last : (printed full ended : Bool) → (not printed || full) || ended ≡ true → printed && not full ≡ true → (full ≡ false) × (ended ≡ true)
+at-last true true ended e last = absurd (false≢true last)
+at-last true false ended e last = (refl, e)
+at-last false full ended e last = absurd (false≢true last)

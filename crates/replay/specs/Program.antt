@@ -1,7 +1,7 @@
 -- What the program keeps from one turn to the next, around the text that `cdi_replay` has for an input.
 use Prim.Native.Nat.{ℕ, _-_}
 use mathlib.Core.Path.{_≡_}
-use mathlib.Core.Bool.{Bool, true, false, not}
+use mathlib.Core.Bool.{Bool, true, false}
 use mathlib.Core.Logic.{_⊎_}
 use mathlib.Core.List.{List}
 use lib.ListN.{length, take, drop}
@@ -32,12 +32,23 @@ answers state chars = answered state chars bufferSize
 abbrev pub leftBehind : ModuleState → List ℕ → List ℕ
 leftBehind state chars = drop (length (withLineFeeds (answers state chars))) chars
 
+-- what the answered lines leave is there still; after the last turn that is no whole line, and the input has ended
+pub record Stays (state : ModuleState) (chars : List ℕ) (ended : Bool) (rest : List ℕ) (endedAfter done : Bool) : Type 0 where
+  pub same : rest ≡ leftBehind state chars
+  pub same-end : endedAfter ≡ ended
+  pub last : done ≡ true → (ended ≡ true) × (leftBehind state chars ≡ unfinished chars)
+
+-- what they leave is a line that is not finished, and more was read behind what is kept of it
+pub record ReadsOn (state : ModuleState) (chars : List ℕ) (ended : Bool) (rest : List ℕ) (endedAfter done failed : Bool) : Type 0 where
+  pub not-ended : ended ≡ false
+  pub not-finished : leftBehind state chars ≡ unfinished chars
+  pub refilled : Refilled (keptOf (leftBehind state chars)) rest endedAfter failed
+  pub not-done : done ≡ false
+
 -- One turn, from a state and characters that are not answered to others. The text of the lines that are answered stands at the front
--- of the output buffer, where it is printed. What they leave is there still; or it is a line that is not finished, and more was read
--- behind what is kept of it, where a read that fails ends the program.
+-- of the output buffer, where it is printed.
 pub record Turned (state : ModuleState) (chars : List ℕ) (ended : Bool) (output : List ℕ)
-    (after : ModuleState) (rest : List ℕ) (endedAfter more : Bool) : Type 0 where
+    (after : ModuleState) (rest : List ℕ) (endedAfter done failed : Bool) : Type 0 where
   pub printed : take (length (linesText state (answers state chars))) output ≡ linesText state (answers state chars)
   pub state-after : after ≡ linesState state (answers state chars)
-  pub left : ((rest ≡ leftBehind state chars) × (endedAfter ≡ ended))
-      ⊎ ((ended ≡ false) × (leftBehind state chars ≡ unfinished chars) × Refilled (keptOf (leftBehind state chars)) rest endedAfter (not more))
+  pub left : Stays state chars ended rest endedAfter done ⊎ ReadsOn state chars ended rest endedAfter done failed

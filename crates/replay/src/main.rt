@@ -33,14 +33,15 @@ struct Filled {
     failed: bool,
 }
 
-// What goes from one turn to the next: the state, which part of the input buffer is not answered, whether the input has ended
-// behind it, and whether there is another turn.
+// What goes from one turn to the next: the state, which part of the input buffer is not answered, and whether the input has ended
+// behind it. No turn follows where all is answered, or where a read or a write failed.
 struct Session {
     state: ModuleState,
     start: usize,
     end: usize,
     ended: bool,
-    more: bool,
+    done: bool,
+    failed: bool,
 }
 
 // Moves input[from..end] to the front, as much of it as has to be kept, and returns how much that is.
@@ -129,7 +130,7 @@ fn turn(session: Session, input: &mut [u8], output: &mut [u8]) -> Session
         × (session .start ≤ session .end) × (session .end ≤ bufferSize) ⌝ }
     ensures { λ r. ⌜ (r .start ≤ r .end) × (r .end ≤ bufferSize)
         × Turned (session .state) (part (session .start) (session .end) (now (input .entry))) (session .ended)
-        (now (output .exit)) (r .state) (part (r .start) (r .end) (now (input .exit))) (r .ended) (r .more) ⌝ }
+        (now (output .exit)) (r .state) (part (r .start) (r .end) (now (input .exit))) (r .ended) (r .done) (r .failed) ⌝ }
 {
     let before = session.state;
     let from = session.start;
@@ -148,7 +149,8 @@ fn turn(session: Session, input: &mut [u8], output: &mut [u8]) -> Session
             start,
             end,
             ended,
-            more: printed & full,
+            done: printed & !full,
+            failed: !printed,
         };
     }
     let filled = refill(input, start, end);
@@ -157,7 +159,8 @@ fn turn(session: Session, input: &mut [u8], output: &mut [u8]) -> Session
         start: 0,
         end: filled.end,
         ended: filled.ended,
-        more: !filled.failed,
+        done: false,
+        failed: filled.failed,
     }
 }
 
@@ -170,13 +173,15 @@ fn replay(input: &mut [u8], output: &mut [u8])
         start: 0,
         end: 0,
         ended: false,
-        more: true,
+        done: false,
+        failed: false,
     };
     let mut turns = u64::MAX;
     while turns > 0 {
         session = turn(session, input, output);
-        let more = session.more;
-        if !more {
+        let done = session.done;
+        let failed = session.failed;
+        if done | failed {
             return;
         }
         turns -= 1;

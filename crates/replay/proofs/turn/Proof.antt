@@ -12,7 +12,7 @@ use lib.Dec.{ltb}
 use lib.ListN.{length}
 use Rattle.logic.proofs.Choice.{neither}
 use Rattle.cdi_replay.specs.Answered.{printedMax}
-use Rattle.replay.proofs.Left.{Learnt, learnt, refilled}
+use Rattle.replay.proofs.Left.{Learnt, learnt, refilled, at-last}
 use Rattle.replay.proofs.turn.Statement.{statement}
 use Rattle.replay.proofs.turn.Tie as tie
 
@@ -64,8 +64,24 @@ same-length-2 c = search needs
 
 returns : tie.Need-returns
 returns c =
+    let s = c .before .before .before .before .before .before .before .before .before .before .before .before .before .before .before in
+    let answers = c .before .before .before .before .before .before .before .before .replay-lines in
     let k = known (c .before .before .before .before .before .before .before .before) in
-    (k .start-within, search needs, record { printed = k .printed; state-after = k .state-after; left = inl (k .left, refl) })
+    let room = length (answers .last .1 .1 .0) - answers .result .written in
+    let print = c .before .print .result in
+    let test = c .if1 .taken in (
+      k .start-within,
+      search needs,
+      record {
+        printed = k .printed;
+        state-after = k .state-after;
+        left = inl (record {
+          same = k .left;
+          same-end = refl;
+          last = λ e. let p = at-last print (ltb room printedMax) (s .args .session .ended) test e in (p .1, k .not-finished (ltb-false room printedMax (p .0)));
+        });
+      },
+    )
 
 refill-requires : tie.Need-refill-requires
 refill-requires c κs = (search needs, known (c .before .before .before .before .before .before .before .before .before) .start-within, search needs)
@@ -78,19 +94,24 @@ same-length-4 c = search needs
 
 returns-2 : tie.Need-returns-2
 returns-2 c =
-    let s = c .before .before .before .before .before .before .before .before .before .before .before .before .before .before .before .before .before .before .before .before in
-    let answers = c .before .before .before .before .before .before .before .before .before .before .before .before .before .replay-lines in
-    let k = known (c .before .before .before .before .before .before .before .before .before .before .before .before .before) in
-    let refill = c .before .before .before .refill in
+    let s = c .before .before .before .before .before .before .before .before .before .before .before .before .before .before .before .before .before .before .before in
+    let answers = c .before .before .before .before .before .before .before .before .before .before .before .before .replay-lines in
+    let k = known (c .before .before .before .before .before .before .before .before .before .before .before .before) in
+    let refill = c .before .before .refill in
     let room = length (answers .last .1 .1 .0) - answers .result .written in
-    let test = neither (not (c .before .before .before .before .before .before .print .result) || ltb room printedMax) (s .args .session .ended) (c .before .before .before .before .before .if1 .left) in
-    let full = neither (not (c .before .before .before .before .before .before .print .result)) (ltb room printedMax) (test .0) .1 in (
+    let test = neither (not (c .before .before .before .before .before .print .result) || ltb room printedMax) (s .args .session .ended) (c .before .before .before .before .if1 .left) in
+    let full = neither (not (c .before .before .before .before .before .print .result)) (ltb room printedMax) (test .0) .1 in (
       search needs,
       refill .ensures .0,
       record {
         printed = k .printed;
         state-after = k .state-after;
-        left = inr (test .1, k .not-finished (ltb-false room printedMax full), refilled _ _ (refill .last .0) (refill .result .end) (refill .result .ended) (refill .result .failed) (k .left) (refill .ensures .1));
+        left = inr (record {
+          not-ended = test .1;
+          not-finished = k .not-finished (ltb-false room printedMax full);
+          refilled = refilled _ _ (refill .last .0) (refill .result .end) (refill .result .ended) (refill .result .failed) (k .left) (refill .ensures .1);
+          not-done = refl;
+        });
       },
     )
 

@@ -1,0 +1,103 @@
+-- A run prints the text of its whole input: each turn prints the text of some lines, and the characters that it leaves and reads
+-- continue to the text of the rest.
+-- Assumes nothing.
+use Prim.Native.Nat.{ℕ}
+use mathlib.Core.Path.{_≡_, refl, sym, ap, _∙_}
+use mathlib.Core.Bool.{Bool, true, false, false≢true}
+use mathlib.Core.Logic.{_⊎_, inl, inr}
+use mathlib.Core.List.{List, [], _++_, append-nil, append-assoc}
+use lib.ListN.{length, drop, take-append-drop}
+use Rattle.logic.proofs.Choice.{by-cases}
+use Rattle.cdi_state.specs.declared.ModuleState.{ModuleState}
+use Rattle.cdi_replay.specs.Replay.{lines, linesText, linesState, replayedFrom}
+use Rattle.cdi_replay.specs.Answered.{hasLineFeed, unfinished}
+use Rattle.cdi_replay.specs.Session.{keptMax, keptOf, lastLine}
+use Rattle.cdi_replay.proofs.Lines.{unfinished-has-none, last-line-finished}
+use Rattle.cdi_replay.proofs.Laws.{pieces, pieces-then, unfinished-kept, last-line, none-taken, kept-enough}
+use Rattle.cdi_replay.proofs.Theorem.{replay-theorem}
+use Rattle.replay.specs.Program.{bufferSize, answers, leftBehind, Stays, ReadsOn}
+use Rattle.replay.specs.Run.{charsRead, Run, last, next, RunTheorem}
+
+-- where the input has ended, what is there are whole lines
+abbrev Finished : Bool → List ℕ → Type 0
+Finished ended chars = ended ≡ true → unfinished chars ≡ []
+
+-- ---- one turn
+-- the last turn prints all that is there
+last-text : (s : ModuleState) (chars rest : List ℕ) (ended endedAfter : Bool)
+    → Stays s chars ended rest endedAfter true ⊎ ReadsOn s chars ended rest endedAfter true false → Finished ended chars
+    → linesText s (answers s chars) ≡ replayedFrom s (chars ++ [])
+unfolding lines linesText
+last-text s chars rest ended endedAfter (inr reads) finished = absurd (false≢true (sym (reads .not-done)))
+last-text s chars rest ended endedAfter (inl stays) finished =
+    let none : leftBehind s chars ≡ [] = stays .last refl .1 ∙ finished (stays .last refl .0) in
+    rw append-nil (sym (pieces s chars bufferSize .0 ∙ rw none (append-nil _)))
+
+module _ (s after : ModuleState) (chars rest : List ℕ) (state-after : after ≡ linesState s (answers s chars)) where
+  -- what is left, and what follows it, continue to the text
+  left-text : (later : List ℕ) → linesText s (answers s chars) ++ replayedFrom after (leftBehind s chars ++ later) ≡ replayedFrom s (chars ++ later)
+  left-text later = rw state-after (sym (pieces-then s chars bufferSize later .0))
+
+  module _ (not-finished : leftBehind s chars ≡ unfinished chars) where
+    part-of-line : hasLineFeed (leftBehind s chars) ≡ false
+    part-of-line = rw not-finished (unfinished-has-none chars)
+
+    -- so does what is kept of a line that is not finished
+    kept-text : (later : List ℕ) → linesText s (answers s chars) ++ replayedFrom after (keptOf (leftBehind s chars) ++ later) ≡ replayedFrom s (chars ++ later)
+    kept-text later =
+        ap (λ (t : List ℕ). linesText s (answers s chars) ++ t) (sym (kept-enough after (leftBehind s chars) later part-of-line .0)) ∙ left-text later
+
+    kept-part : hasLineFeed (keptOf (leftBehind s chars)) ≡ false
+    kept-part = none-taken keptMax (leftBehind s chars) part-of-line
+
+    -- and so does the last line
+    last-line-text : linesText s (answers s chars) ++ replayedFrom after (lastLine (keptOf (leftBehind s chars)) ++ []) ≡ replayedFrom s (chars ++ [])
+    last-line-text = simp append-nil (rw (last-line after (keptOf (leftBehind s chars)) kept-part .0) (simp append-nil at (kept-text [])))
+
+-- ---- the turns one after the other
+-- where the input has ended no more is read
+stays-ended : (s : ModuleState) (chars rest input : List ℕ) (ended endedAfter : Bool)
+    (left : Stays s chars ended rest endedAfter false ⊎ ReadsOn s chars ended rest endedAfter false false) → ended ≡ true → (endedAfter ≡ true → input ≡ [])
+    → charsRead (keptOf (leftBehind s chars)) rest endedAfter left ++ input ≡ []
+stays-ended s chars rest input ended endedAfter (inl stays) e none = none (stays .same-end ∙ e)
+stays-ended s chars rest input ended endedAfter (inr reads) e none = absurd (false≢true (sym (reads .not-ended) ∙ e))
+
+none-read : {s : ModuleState} {chars input text : List ℕ} {ended : Bool} → Run s chars ended input text → ended ≡ true → input ≡ []
+none-read (last t) e = refl
+none-read (next t run) e = stays-ended _ _ _ _ _ _ (t .left) e (λ ended. none-read run ended)
+
+-- a turn prints the text before that of the turns behind it
+next-text : (s after : ModuleState) (chars rest input text : List ℕ) (ended endedAfter : Bool)
+    (left : Stays s chars ended rest endedAfter false ⊎ ReadsOn s chars ended rest endedAfter false false)
+    → after ≡ linesState s (answers s chars) → Finished ended chars
+    → (Finished endedAfter rest → text ≡ replayedFrom after (rest ++ input)) → (endedAfter ≡ true → input ≡ [])
+    → linesText s (answers s chars) ++ text ≡ replayedFrom s (chars ++ (charsRead (keptOf (leftBehind s chars)) rest endedAfter left ++ input))
+next-text s after chars rest input text ended endedAfter (inl stays) state-after finished then none =
+    let kept : Finished endedAfter rest = λ e. ap unfinished (stays .same) ∙ unfinished-kept s chars bufferSize ∙ finished (sym (stays .same-end) ∙ e) in
+    ap (λ (t : List ℕ). linesText s (answers s chars) ++ t) (then kept ∙ ap (λ (l : List ℕ). replayedFrom after (l ++ input)) (stays .same))
+    ∙ left-text s after chars rest state-after input
+next-text s after chars rest input text ended endedAfter (inr reads) state-after finished then none =
+    let kept = keptOf (leftBehind s chars) in
+    by-cases endedAfter
+    (λ t.
+    let line : rest ≡ lastLine kept = reads .refilled .last t in
+    let whole : Finished endedAfter rest = λ e. ap unfinished line ∙ last-line-finished kept (kept-part s after chars rest state-after (reads .not-finished)) in
+    let all : text ≡ replayedFrom after (lastLine kept ++ []) = then whole ∙ rw (line, none t) in
+    rw (t, all, none t) (last-line-text s after chars rest state-after (reads .not-finished)))
+    (λ f.
+    let piece = drop (length kept) rest in
+    let split : rest ≡ kept ++ piece =
+    sym (take-append-drop (length kept) rest) ∙ ap (λ (l : List ℕ). l ++ piece) (reads .refilled .front) in
+    let unended : Finished endedAfter rest = λ e. absurd (false≢true (sym f ∙ e)) in
+    let all : text ≡ replayedFrom after (kept ++ (piece ++ input)) =
+    then unended ∙ ap (λ (l : List ℕ). replayedFrom after (l ++ input)) split ∙ ap (replayedFrom after) (append-assoc kept piece input) in
+    rw (f, all) (kept-text s after chars rest state-after (reads .not-finished) (piece ++ input)))
+
+run-text : {s : ModuleState} {chars input text : List ℕ} {ended : Bool} → Run s chars ended input text → Finished ended chars
+    → text ≡ replayedFrom s (chars ++ input)
+run-text (last t) finished = last-text _ _ _ _ _ (t .left) finished
+run-text (next t run) finished = next-text _ _ _ _ _ _ _ _ (t .left) (t .state-after) finished (λ whole. run-text run whole) (λ ended. none-read run ended)
+
+pub run-theorem : RunTheorem
+unfolding unfinished
+run-theorem input text run = run-text run (λ e. refl) ∙ replay-theorem input
