@@ -5,3 +5,4 @@ pub mod Answering
 pub mod Laws
 pub mod Pieces
 pub mod Theorem
+pub mod Examples
