@@ -1,5 +1,5 @@
 #!/usr/bin/env python3
-"""Measures the replay program beside replay_peer.c, a C program of the same behaviour, as a ratio.
+"""Measures the replay program beside peer_replay.c, a C program of the same behaviour, as a ratio.
 
 Both run on one generated log of about 100 MB, interleaved, and must print the same bytes. The ratio is
 that of the two programs' best times. Needs gcc and target/bin/replay (`rt check replay`).
@@ -62,7 +62,8 @@ def run(program, log, out):
 def main():
     with tempfile.TemporaryDirectory() as folder:
         log, out, peer = (f"{folder}/{name}" for name in ("log", "out", "peer"))
-        subprocess.run(["gcc", "-O2", "-o", peer, ROOT / "bench" / "replay_peer.c"], check=True)
+        sources = [ROOT / "bench" / name for name in ("peer.c", "peer_replay.c")]
+        subprocess.run(["gcc", "-O2", "-o", peer, *sources], check=True)
         write_log(log)
         times = {REPLAY: [], peer: []}
         digests = set()

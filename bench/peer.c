@@ -1,0 +1,256 @@
+/* The module of document 01, written by hand in plain C: state, items, frame, commands. */
+
+#include "peer.h"
+
+#include <stdbool.h>
+#include <string.h>
+
+/* Document 01's numbers. */
+enum refusal {
+    ACCEPTED, RESPONSE_BUFFER_SHORT, INVALID, ENDS_EARLY, BAD_START, BAD_LENGTH_BYTE,
+    TRAILING_BYTES, COMMAND_NOT_SERVED, WRONG_LENGTH, ITEM_NOT_SERVED, NOT_PERMITTED,
+    WRONG_INDEX, VALUE_NOT_ACCEPTED
+};
+
+/* ---- Items ---------------------------------------------------------------------------------- */
+
+enum {
+    NAME = 0x01, FIRMWARE = 0x02, SERIAL = 0x03, ADDRESS = 0x10, LINE_MASK = 0x11,
+    LATCH_MASK = 0x12, TX_POWER = 0x13, CONTROL_SOURCE = 0x14, MESSAGE_SELECT = 0x15,
+    ANALOG_INPUT = 0x16, SLOT = 0x18, LINES = 0x20, RSSI = 0x21, LADJ = 0x22, STATUS = 0x23,
+    INTERRUPT_MASK = 0x25, EVENTS = 0x26
+};
+
+enum { R = 1, N = 2, W = 4, P = 8 }; /* Read, Read NV, Write, Program */
+
+struct item {
+    uint8_t value_length, index_length;
+    uint8_t commands;     /* 0: not served */
+    uint16_t working, nv; /* where its cells lie in the state; the same for a single cell */
+};
+
+#define CELL(field) offsetof(struct peer_state, field), offsetof(struct peer_state, field)
+#define CELLS(field) \
+    offsetof(struct peer_state, working.field), offsetof(struct peer_state, nv.field)
+
+static const struct item items[256] = {
+    [NAME] = {PEER_NAME, 0, R | N, CELL(name)},
+    [FIRMWARE] = {3, 0, R | N, CELL(firmware)},
+    [SERIAL] = {4, 0, R | N, CELL(serial)},
+    [ADDRESS] = {4, 0, R | N | P, CELL(address)},
+    [LINE_MASK] = {1, 0, R | N | W | P, CELLS(line_mask)},
+    [LATCH_MASK] = {1, 0, R | N | W | P, CELLS(latch_mask)},
+    [TX_POWER] = {1, 0, R | N | W | P, CELLS(tx_power)},
+    [CONTROL_SOURCE] = {1, 0, R | N | W | P, CELLS(control_source)},
+    [MESSAGE_SELECT] = {1, 0, R | N | W | P, CELLS(message_select)},
+    [ANALOG_INPUT] = {PEER_ROW, 1, R | N | W | P, CELLS(analog_inputs)},
+    [SLOT] = {PEER_ROW, 1, R | N | P, CELL(slots)},
+    [LINES] = {2, 0, R, CELL(lines)},
+    [RSSI] = {2, 0, R, CELL(rssi)},
+    [LADJ] = {1, 0, R, CELL(ladj)},
+    [STATUS] = {4, 0, R, 0, 0}, /* no cell of its own */
+    [INTERRUPT_MASK] = {1, 0, R | W | P, CELLS(interrupt_mask)},
+    [EVENTS] = {1, 0, R, CELL(events)},
+};
+
+static bool accepts_tx_power(uint8_t value) { return (int8_t)value >= -20 && (int8_t)value <= 10; }
+static bool accepts_control_source(uint8_t value) { return (value & 0xE0) == 0; }
+static bool accepts_message_select(uint8_t value) { return value <= 6; }
+
+static bool accepts_analog_input(const uint8_t *row)
+{
+    bool channel = (row[0] >= 0x04 && row[0] <= 0x07) || row[0] >= 0xFE;
+    return channel && row[1] >= 1 && row[1] <= 16 && row[2] <= 1;
+}
+
+static bool accepts_slot(const uint8_t *slot)
+{
+    uint32_t address;
+    memcpy(&address, slot, sizeof address);
+    return address != 0 || slot[4] == 0;
+}
+
+static bool accepts(uint8_t item, const uint8_t *value)
+{
+    switch (item) {
+    case TX_POWER: return accepts_tx_power(value[0]);
+    case CONTROL_SOURCE: return accepts_control_source(value[0]);
+    case MESSAGE_SELECT: return accepts_message_select(value[0]);
+    case ANALOG_INPUT: return accepts_analog_input(value);
+    case SLOT: return accepts_slot(value);
+    default: return true;
+    }
+}
+
+/* Inputs count from 1, slots from 0. */
+static bool is_index(uint8_t item, uint8_t index)
+{
+    return item == ANALOG_INPUT ? index >= 1 && index <= PEER_INPUTS : index < PEER_SLOTS;
+}
+
+/* ---- The state ------------------------------------------------------------------------------ */
+
+static const struct peer_settings default_settings = {
+    .control_source = 0x06,
+    .analog_inputs = {{0xFF, 0x01, 0x00, 0x00, 0x00}, {0xFF, 0x01, 0x00, 0x00, 0x00}},
+};
+
+struct peer_state peer_factory(void)
+{
+    /* every byte that isn't named is 00 */
+    return (struct peer_state){
+        .nv = default_settings, .working = default_settings, .rssi = {0x80, 0x80}};
+}
+
+static bool are_valid_settings(const struct peer_settings *settings)
+{
+    return accepts_tx_power(settings->tx_power) &&
+           accepts_control_source(settings->control_source) &&
+           accepts_message_select(settings->message_select) &&
+           accepts_analog_input(settings->analog_inputs[0]) &&
+           accepts_analog_input(settings->analog_inputs[1]);
+}
+
+static bool is_valid(const struct peer_state *state)
+{
+    if (memchr(state->name, 0x00, PEER_NAME) == NULL) return false;
+    if (!are_valid_settings(&state->nv) || !are_valid_settings(&state->working)) return false;
+    for (size_t i = 0; i < PEER_SLOTS; i++)
+        if (!accepts_slot(state->slots[i])) return false;
+    return (state->flags & 0x07) <= 4 && (state->flags & 0xC8) == 0;
+}
+
+/* ---- Frame and payload ---------------------------------------------------------------------- */
+
+enum { FRAME_START = 0x80, WAKE = 0xFF, MOST_WAKES = 16, WAKES_END = 0x55, LENGTH_BASE = 0x80 };
+enum { READ = 0x01, WRITE = 0x02, READ_NV = 0x03, PROGRAM = 0x04 };
+enum { SET_DEFAULT = 0x81, ERASE_ALL_ADDRESSES = 0x82 };
+
+static enum refusal read_frame(const uint8_t *block, size_t size, const uint8_t **payload,
+                               size_t *length)
+{
+    if (size == 0) return ENDS_EARLY;
+    if (block[0] != FRAME_START) return BAD_START;
+    size_t at = 1;
+    for (; at < size && block[at] == WAKE; at++)
+        if (at > MOST_WAKES) return BAD_START;
+    if (at == size) return ENDS_EARLY;
+    if (block[at++] != WAKES_END) return BAD_START;
+    if (at == size) return ENDS_EARLY;
+    if (block[at] <= LENGTH_BASE) return BAD_LENGTH_BYTE;
+    *length = (size_t)(block[at++] - LENGTH_BASE);
+    *payload = block + at;
+    if (size - at < *length) return ENDS_EARLY;
+    return size - at > *length ? TRAILING_BYTES : ACCEPTED;
+}
+
+static enum refusal validate_payload(const uint8_t *payload, size_t length)
+{
+    static const uint8_t marks[] = {[READ] = R, [WRITE] = W, [READ_NV] = N, [PROGRAM] = P};
+    if (payload[0] == SET_DEFAULT || payload[0] == ERASE_ALL_ADDRESSES)
+        return length == 1 ? ACCEPTED : WRONG_LENGTH;
+    if (payload[0] < READ || payload[0] > PROGRAM) return COMMAND_NOT_SERVED;
+    if (length == 1) return WRONG_LENGTH;
+    uint8_t mark = marks[payload[0]];
+    const struct item *item = &items[payload[1]];
+    if (item->commands == 0) return ITEM_NOT_SERVED;
+    if ((item->commands & mark) == 0) return NOT_PERMITTED;
+    bool has_value = (mark & (W | P)) != 0;
+    size_t value_start = 2u + item->index_length;
+    if (length != value_start + (has_value ? item->value_length : 0)) return WRONG_LENGTH;
+    if (item->index_length != 0 && !is_index(payload[1], payload[2])) return WRONG_INDEX;
+    if (has_value && !accepts(payload[1], payload + value_start)) return VALUE_NOT_ACCEPTED;
+    return ACCEPTED;
+}
+
+/* ---- Executing a command -------------------------------------------------------------------- */
+
+enum { ACKNOWLEDGED = 0xC0, READ_RESPONSE = 0xC1, READ_NV_RESPONSE = 0xC2 };
+
+static size_t write_status(const struct peer_state *state, uint8_t *value)
+{
+    const struct peer_settings *working = &state->working;
+    const struct peer_hardware_selection *hardware = &state->hardware;
+    uint8_t control = working->control_source;
+    bool interrupt = (state->events & working->interrupt_mask) != 0;
+    value[0] = (uint8_t)((state->flags & 0x7F) | (interrupt ? 0x80 : 0x00));
+    value[1] = control & 0x01 ? working->tx_power : hardware->power;
+    value[2] = control & 0x08 ? working->line_mask : hardware->line_mask;
+    value[3] = control & 0x10 ? working->latch_mask : hardware->latch_mask;
+    return 4;
+}
+
+/* How far behind an item's first cell the one that a payload names lies. */
+static size_t row_offset(const uint8_t *payload)
+{
+    if (payload[1] == ANALOG_INPUT) return (payload[2] - 1u) * PEER_ROW;
+    return payload[1] == SLOT ? (size_t)payload[2] * PEER_ROW : 0;
+}
+
+/* Writes the value that an accepted Read or Read NV answers; its length. */
+static size_t write_value(const struct peer_state *state, const uint8_t *payload, uint8_t *value)
+{
+    if (payload[1] == STATUS) return write_status(state, value);
+    const struct item *item = &items[payload[1]];
+    size_t length = item->value_length;
+    if (payload[1] == NAME)
+        length = strnlen((const char *)state->name, PEER_NAME - 1) + 1;
+    size_t cell = payload[0] == READ ? item->working : item->nv;
+    memcpy(value, (const uint8_t *)state + cell + row_offset(payload), length);
+    return length;
+}
+
+/* An item with a single cell is stored once, under either name. */
+static void store_value(struct peer_state *state, const uint8_t *payload)
+{
+    const struct item *item = &items[payload[1]];
+    const uint8_t *value = payload + 2 + item->index_length;
+    uint8_t *row = (uint8_t *)state + row_offset(payload);
+    memcpy(row + item->working, value, item->value_length);
+    if (payload[0] == PROGRAM && item->nv != item->working)
+        memcpy(row + item->nv, value, item->value_length);
+}
+
+/* Carries out an accepted payload and writes the response's payload; its length. */
+static size_t perform(struct peer_state *state, const uint8_t *payload, size_t length,
+                      uint8_t *answer)
+{
+    switch (payload[0]) {
+    case READ:
+    case READ_NV:
+        answer[0] = payload[0] == READ ? READ_RESPONSE : READ_NV_RESPONSE;
+        memcpy(answer + 1, payload + 1, length - 1);
+        return length + write_value(state, payload, answer + length);
+    case SET_DEFAULT:
+        state->nv = default_settings;
+        state->working = default_settings;
+        break;
+    case ERASE_ALL_ADDRESSES:
+        memset(state->slots, 0, sizeof state->slots);
+        break;
+    default:
+        store_value(state, payload);
+    }
+    answer[0] = ACKNOWLEDGED;
+    answer[1] = 0x00;
+    memcpy(answer + 2, payload, length);
+    return length + 2;
+}
+
+struct peer_outcome peer_execute(struct peer_state *state, const uint8_t *block, size_t block_size,
+                                 uint8_t *response, size_t response_size)
+{
+    const uint8_t *payload;
+    size_t length;
+    if (response_size < PEER_RESPONSE) return (struct peer_outcome){RESPONSE_BUFFER_SHORT, 0};
+    if (!is_valid(state)) return (struct peer_outcome){INVALID, 0};
+    enum refusal refusal = read_frame(block, block_size, &payload, &length);
+    if (refusal == ACCEPTED)
+        refusal = validate_payload(payload, length);
+    if (refusal != ACCEPTED) return (struct peer_outcome){(uint8_t)refusal, 0};
+    length = perform(state, payload, length, response + 3);
+    response[0] = FRAME_START;
+    response[1] = WAKES_END;
+    response[2] = (uint8_t)(LENGTH_BASE + length);
+    return (struct peer_outcome){ACCEPTED, 3 + length};
+}

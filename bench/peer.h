@@ -1,0 +1,47 @@
+/* The module of document 01, written by hand in plain C: what the proved one is measured beside. */
+#ifndef PEER_H
+#define PEER_H
+
+#include <stddef.h>
+#include <stdint.h>
+
+enum {
+    PEER_NAME = 17,
+    PEER_SLOTS = 40,
+    PEER_INPUTS = 2,
+    PEER_ROW = 5,       /* bytes of a slot, and of an analog input */
+    PEER_RESPONSE = 22  /* bytes that a response buffer has at least */
+};
+
+struct peer_settings {
+    uint8_t line_mask, latch_mask, tx_power, control_source, message_select;
+    uint8_t analog_inputs[PEER_INPUTS][PEER_ROW];
+    uint8_t interrupt_mask;
+};
+
+struct peer_hardware_selection {
+    uint8_t power, line_mask, latch_mask;
+};
+
+/* In the order of cdi.h's, so that two states can be compared byte by byte. */
+struct peer_state {
+    uint8_t name[PEER_NAME], firmware[3], serial[4], address[4];
+    struct peer_settings nv, working;
+    uint8_t slots[PEER_SLOTS][PEER_ROW];
+    uint8_t lines[2], rssi[2], ladj, events, flags;
+    struct peer_hardware_selection hardware;
+};
+
+/* Document 01's number or 0, and the response's length, 0 on a refusal. */
+struct peer_outcome {
+    uint8_t refusal;
+    size_t length;
+};
+
+struct peer_state peer_factory(void);
+
+/* Executes one command block. A refusal changes no byte; bytes behind the response stay. */
+struct peer_outcome peer_execute(struct peer_state *state, const uint8_t *block, size_t block_size,
+                                 uint8_t *response, size_t response_size);
+
+#endif
