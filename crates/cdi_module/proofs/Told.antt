@@ -1,16 +1,20 @@
 -- What `respond` tells of a block, and what is stored by it.
 -- Assumes nothing.
 use Prim.Native.Nat.{ℕ}
-use mathlib.Core.Path.{_≡_, refl, sym, subst}
-use mathlib.Core.Bool.{false, true≢false}
+use mathlib.Core.Path.{_≡_, refl, sym, subst, ap, _∙_}
+use mathlib.Core.Bool.{Bool, true, false, true≢false, cond, _||_}
 use mathlib.Core.List.{List}
+use Rattle.logic.proofs.Choice.{by-cases}
 use Rattle.refusal.specs.Refusal.{Result, accepted, refused}
 use Rattle.cdi_command.specs.declared.Command.{Command}
 use Rattle.cdi_command.specs.declared.Command.the-variants.{Read, ReadIndexed, ReadNv, ReadNvIndexed, Write, WriteIndexed, Program, ProgramIndexed, SetDefault, EraseAll}
+use Rattle.cdi_command.specs.Command.{validatedResult}
 use Rattle.cdi_state.specs.declared.ModuleState.{ModuleState}
+use Rattle.cdi_state.specs.Valid.{isValid}
 use Rattle.cdi_store.specs.Store.{stateFor}
+use Rattle.cdi_model.specs.Step.{command, responded}
 use Rattle.cdi_module.specs.declared.Decided.{Decided}
-use Rattle.cdi_module.specs.Module.{Decision, refuse, execute, executePowerUp, decided, stateBy, storesBy, refusedAs, Responds}
+use Rattle.cdi_module.specs.Module.{Decision, refuse, execute, executePowerUp, decided, decideIf, decide, stateBy, storesBy, refusedAs, Responds, step, blockResult, resultOf}
 
 -- a refusal leaves the buffer
 pub refusal-told : (s : ModuleState) (n : ℕ) (buffer : List ℕ) (r : Decided) → r ≡ refusedAs n → Responds s (refuse n) buffer buffer r
@@ -35,3 +39,27 @@ nothing-stored s (execute (ProgramIndexed x i v)) e = absurd (true≢false e)
 nothing-stored s (execute SetDefault) e = absurd (true≢false e)
 nothing-stored s (execute EraseAll) e = absurd (true≢false e)
 nothing-stored s executePowerUp e = absurd (true≢false e)
+
+-- what is told of a block, once what is known of the state is true, by the step that it is
+module _ (s : ModuleState) (block before after : List ℕ) (known : Bool) (r : Decided) (so : known ≡ true → isValid s ≡ true)
+    (told : Responds s (decideIf (known || isValid s) block before) before after r)
+  where
+    known-valid : known || isValid s ≡ isValid s
+    known-valid = by-cases known (λ t. rw (t, so t)) (λ f. rw f)
+
+    same-decision : decideIf (known || isValid s) block before ≡ decide s (command block before)
+    unfolding decide
+    same-decision = ap (λ (valid : Bool). decideIf valid block before) known-valid
+
+    -- the state after it
+    pub told-step : cond (r .stores) (stateFor s (validatedResult (r .validated))) s ≡ step s (command block before)
+    unfolding step
+    told-step =
+        by-cases (r .stores)
+        (λ t. rw t (stored-by s (validatedResult (r .validated)) ∙ ap (stateBy s) (told .decides ∙ same-decision)))
+        (λ f. rw f (sym (nothing-stored s (decide s (command block before)) (sym (told .tells ∙ ap storesBy same-decision) ∙ f))))
+
+    -- and its result
+    pub told-result : responded (r .outcome .refusal) (r .outcome .length) after ≡ resultOf s (command block before)
+    unfolding resultOf
+    told-result = told .results ∙ ap (blockResult s before) same-decision

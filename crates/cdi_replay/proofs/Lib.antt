@@ -6,3 +6,4 @@ pub mod Laws
 pub mod Pieces
 pub mod Theorem
 pub mod Examples
+pub mod Valid

@@ -6,9 +6,12 @@ use mathlib.Core.List.{List, [], _∷_, _++_}
 use lib.Dec.{eqb, leb}
 use lib.ListN.{length}
 use Rattle.logic.specs.Written.{written}
-use Rattle.hex_text.specs.Hex.{hexLine, printed, lineFeed}
+use Rattle.hex_text.specs.Hex.{Line, hexLine, printed, lineFeed}
+use Rattle.cdi_command.specs.Command.{validatedResult}
 use Rattle.cdi_state.specs.declared.ModuleState.{ModuleState}
+use Rattle.cdi_store.specs.Store.{stateFor}
 use Rattle.cdi_module.specs.Module.{responseMax}
+use Rattle.cdi_replay.specs.declared.LineAnswer.{LineAnswer}
 use Rattle.cdi_replay.specs.declared.Progress.{Progress}
 use Rattle.cdi_replay.specs.Replay.{lines, lineText, lineState, linesText, linesState}
 
@@ -25,6 +28,11 @@ pub record Prints (text before after : List ℕ) (count : ℕ) : Type 0 where
   pub counted : count ≡ length (printed text)
   pub placed : after ≡ written before (printed text)
   pub few : count ≤ printedMax
+
+-- a line answered: its text is printed, and where it stores anything the state after it is what is stored for its payload
+pub record Answers (state : ModuleState) (line : Line) (before after : List ℕ) (r : LineAnswer) : Type 0 where
+  pub stored : cond (r .stores) (stateFor state (validatedResult (r .validated))) state ≡ lineState state line
+  pub prints : Prints (lineText state line) before after (r .printed)
 
 -- ---- whole lines
 abbrev pub hasLineFeed : List ℕ → Bool

@@ -1,18 +1,24 @@
 // The replay program's work without its reading and printing: the lines of an input executed on a module one after the other, and
 // the text that is printed for them. Document 01, "Examples".
 ghost use mathlib.Core.Path.{_≡_};
+ghost use mathlib.Core.Bool.{true, false, cond};
 ghost use Prim.Native.Nat.{_≤_};
 ghost use lib.ListN.{length};
 ghost use Rattle.logic.specs.Written.{written};
-ghost use Rattle.hex_text.specs.Hex.{hexLine};
-ghost use Rattle.cdi_module.specs.Module.{responseMax, step, resultOf};
-ghost use Rattle.cdi_replay.specs.Replay.{blockStep, outcomeText, resultText, lineText, lineState, linesText};
-ghost use Rattle.cdi_replay.specs.Answered.{blockMax, printedMax, Prints, answered, progress};
+ghost use Rattle.cdi_command.specs.Command.{validatedResult};
+ghost use Rattle.cdi_state.specs.Valid.{isValid};
+ghost use Rattle.cdi_store.specs.Store.{stateFor};
+ghost use Rattle.hex_text.specs.Hex.{Line, notHexText, hexLine};
+ghost use Rattle.cdi_module.specs.Module.{responseMax};
+ghost use Rattle.cdi_replay.specs.Replay.{outcomeText, linesText};
+ghost use Rattle.cdi_replay.specs.Answered.{blockMax, printedMax, Prints, Answers, answered, progress};
+use cdi_command::Validated;
 use cdi_module::RESPONSE_MAX;
 use cdi_state::ModuleState;
 use hex_text::HexLine;
 use hex_text::LINE_FEED;
 use hex_text::LINE_MAX;
+use refusal::NONE;
 use refusal::Outcome;
 
 // The most bytes that a line of hex holds: each but the last takes two digits and a space.
@@ -22,9 +28,10 @@ const BLOCK_MAX: usize = (LINE_MAX + 1) / 3;
 // answered in less room.
 pub const PRINTED_MAX: usize = 3 * RESPONSE_MAX;
 
-// What one line gives: the state after it, and how many bytes of the output it takes.
+// What one line gives: its payload as it was validated, whether that stores anything, and how many bytes of the output it takes.
 struct LineAnswer {
-    state: ModuleState,
+    validated: Validated,
+    stores: bool,
     printed: usize,
 }
 
@@ -49,41 +56,63 @@ fn write_outcome(outcome: Outcome, response: &[u8], out: &mut [u8]) -> usize
     hex_text::write_block(&response[0..length], out)
 }
 
-// Executes a block, and writes what came of it over the front of `out`.
-fn answer_block(state: ModuleState, block: &[u8], out: &mut [u8]) -> LineAnswer
-    requires { ⌜ printedMax ≤ length (now out) ⌝ }
-    ensures { λ r. ⌜ (r .state ≡ step state (blockStep (now (block .entry))))
-        × Prints (resultText (resultOf state (blockStep (now (block .entry))))) (now (out .entry)) (now (out .exit)) (r .printed) ⌝ }
+// Responds to a block, and writes what came of it over the front of `out`. A state that is known to be valid is not looked at again.
+fn answer_block(known: bool, state: ModuleState, block: &[u8], out: &mut [u8]) -> LineAnswer
+    requires { ⌜ (known ≡ true → isValid state ≡ true) × (printedMax ≤ length (now out)) ⌝ }
+    ensures { λ r. ⌜ Answers state (Line.block (now (block .entry))) (now (out .entry)) (now (out .exit)) r ⌝ }
 {
     let mut response = [0u8; RESPONSE_MAX];
-    let execution = cdi_module::execute(state, block, &mut response);
-    let outcome = execution.outcome;
+    let decided = cdi_module::respond_known(known, state, block, &mut response);
+    let outcome = decided.outcome;
     let printed = write_outcome(outcome, &response, out);
-    let after = execution.state;
+    let validated = decided.validated;
     LineAnswer {
-        state: after,
+        validated,
+        stores: decided.stores,
+        printed,
+    }
+}
+
+// A line that is not hex stores nothing.
+fn answer_not_hex(out: &mut [u8]) -> LineAnswer
+    requires { ⌜ printedMax ≤ length (now out) ⌝ }
+    ensures { λ r. ⌜ (r .validated ≡ Validated.Refused 0) × (r .stores ≡ false) × Prints notHexText (now (out .entry)) (now (out .exit)) (r .printed) ⌝ }
+{
+    let printed = hex_text::write_not_hex(out);
+    LineAnswer {
+        validated: Validated::Refused(NONE),
+        stores: false,
         printed,
     }
 }
 
 // Answers one line, given without its line feed, over the front of `out`. `block` is room for the line's bytes.
-fn answer_line(state: ModuleState, line: &[u8], block: &mut [u8], out: &mut [u8]) -> LineAnswer
-    requires { ⌜ (length (now block) ≡ blockMax) × (printedMax ≤ length (now out)) ⌝ }
-    ensures { λ r. ⌜ (r .state ≡ lineState state (hexLine (now (line .entry))))
-        × Prints (lineText state (hexLine (now (line .entry)))) (now (out .entry)) (now (out .exit)) (r .printed) ⌝ }
+fn answer_line(
+    known: bool,
+    state: ModuleState,
+    line: &[u8],
+    block: &mut [u8],
+    out: &mut [u8],
+) -> LineAnswer
+    requires { ⌜ (known ≡ true → isValid state ≡ true) × (length (now block) ≡ blockMax) × (printedMax ≤ length (now out)) ⌝ }
+    ensures { λ r. ⌜ Answers state (hexLine (now (line .entry))) (now (out .entry)) (now (out .exit)) r ⌝ }
 {
     let read = hex_text::read_line(line, block);
     match read {
-        HexLine::Block(n) => answer_block(state, &block[0..n], out),
-        HexLine::NotHex => {
-            let printed = hex_text::write_not_hex(out);
-            LineAnswer { state, printed }
-        }
-        HexLine::NoRoom => {
-            let printed = hex_text::write_not_hex(out);
-            LineAnswer { state, printed }
-        }
+        HexLine::Block(n) => answer_block(known, state, &block[0..n], out),
+        HexLine::NotHex => answer_not_hex(out),
+        HexLine::NoRoom => answer_not_hex(out),
     }
+}
+
+// The state after a line.
+fn stored(state: ModuleState, stores: bool, validated: Validated) -> ModuleState
+    ensures { λ r. ⌜ r ≡ cond stores (stateFor state (validatedResult validated)) state ⌝ }
+{
+    if stores {
+        return cdi_store::store(state, validated);
+    }
+    state
 }
 
 // Answers the lines of `input` that a line feed ends, from the first on, over the front of `output`, each as long as there is room
@@ -92,14 +121,23 @@ pub fn replay_lines(state: ModuleState, input: &[u8], output: &mut [u8]) -> Prog
     ensures { λ r. ⌜ (r ≡ progress state (answered state (now (input .entry)) (length (now (output .entry)))))
         × (now (output .exit) ≡ written (now (output .entry)) (linesText state (answered state (now (input .entry)) (length (now (output .entry)))))) ⌝ }
 {
+    let state = state.array_lengths();
+    let known = state.is_valid();
     let mut current = state;
     let mut used = 0;
     let mut start = 0;
     let mut block = [0u8; BLOCK_MAX];
     let mut end = bytes::scan::find(input, start, input.len(), LINE_FEED);
     while end < input.len() && output.len() - used >= PRINTED_MAX {
-        let answer = answer_line(current, &input[start..end], &mut block, &mut output[used..]);
-        current = answer.state;
+        let answer = answer_line(
+            known,
+            current,
+            &input[start..end],
+            &mut block,
+            &mut output[used..],
+        );
+        let validated = answer.validated;
+        current = stored(current, answer.stores, validated);
         used += answer.printed;
         start = end + 1;
         end = bytes::scan::find(input, start, input.len(), LINE_FEED);

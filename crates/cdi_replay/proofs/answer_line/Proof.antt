@@ -5,12 +5,11 @@ use mathlib.Core.Path.{_≡_, refl, sym, ap, _∙_}
 use mathlib.Core.List.{List}
 use native.Mathlib.Nat.{sub-zero}
 use native.Mathlib.Omega.{arith}
-use borrow.Author.Needs.{needs}
 use lib.ListN.{length, take}
 use Rattle.hex_text.specs.Hex.{block, hexLine}
 use Rattle.hex_text.proofs.Laws.{room-enough}
-use Rattle.cdi_replay.proofs.Printed.{prints}
 use Rattle.cdi_replay.proofs.Read.{block-read, not-hex-read}
+use borrow.Author.Needs.{needs}
 use Rattle.cdi_replay.proofs.answer_line.Statement.{statement}
 use Rattle.cdi_replay.proofs.answer_line.Tie as tie
 
@@ -46,14 +45,14 @@ answer-block-requires c κs = search needs
 enum-told : tie.Need-enum-told
 enum-told c = search needs
 
-write-not-hex-requires : tie.Need-write-not-hex-requires
-write-not-hex-requires c κs = search needs
+answer-not-hex-requires : tie.Need-answer-not-hex-requires
+answer-not-hex-requires c κs = search needs
 
 enum-told-2 : tie.Need-enum-told-2
 enum-told-2 c = search needs
 
-write-not-hex-requires-2 : tie.Need-write-not-hex-requires-2
-write-not-hex-requires-2 c κs = search needs
+answer-not-hex-requires-2 : tie.Need-answer-not-hex-requires-2
+answer-not-hex-requires-2 c κs = search needs
 
 same-length : tie.Need-same-length
 same-length c = search needs
@@ -63,8 +62,9 @@ same-length-2 c = search needs
 
 returns : tie.Need-returns
 returns c =
-    let read = c .before .before .before .before .before .before .before in
-    rw (at-front read .1) (rw sub-zero at (c .before .before .answer-block .ensures))
+    let k = c .before .before in
+    let read = k .before .before .before .before .before in
+    rw (at-front read .1) (rw sub-zero at (k .answer-block .ensures))
 
 same-length-3 : tie.Need-same-length-3
 same-length-3 c = search needs
@@ -74,12 +74,13 @@ same-length-4 c = search needs
 
 returns-2 : tie.Need-returns-2
 returns-2 c =
-    let s = c .before .before .before .before .before .before .before .before .before .before .before .before .before in
-    let call = c .before .before .write-not-hex in
-    let read = c .before .before .before .before .before .before .before .before .read-line in
-    let answer = sym (read .ensures .0) ∙ c .before .before .before .before .enum-told .given .1 in
-    let none = not-hex-read (hexLine (s .args .line .now)) (length (s .args .block .now)) answer in
-    rw none (refl, prints _ _ _ _ (omega arith) (s .pre .1) (call .ensures .0) (call .ensures .1))
+    let k = c .before .before in
+    let t = k .before .before in
+    let read = t .before .before .before .before in
+    let s = read .before .before .before .before .before in
+    let none = not-hex-read (hexLine (s .args .line .now)) (length (s .args .block .now)) (sym (read .read-line .ensures .0) ∙ t .enum-told .given .1) in
+    let told = k .answer-not-hex .ensures in
+    rw none (record { stored = rw (told .1); prints = told .2 })
 
 same-length-5 : tie.Need-same-length-5
 same-length-5 c = search needs
@@ -89,10 +90,10 @@ same-length-6 c = search needs
 
 returns-3 : tie.Need-returns-3
 returns-3 c =
-    let s = c .before .before .before .before .before .before .before .before .before .before .before .before .before in
-    let read = c .before .before .before .before .before .before .before .before .read-line in
-    let answer = sym (read .ensures .0) ∙ c .before .before .before .before .enum-told2 .given .1 in
-    absurd (room-enough (s .args .line .now) (length (s .args .block .now)) (omega arith) answer)
+    let t = c .before .before .before .before in
+    let read = t .before .before .before .before in
+    let s = read .before .before .before .before .before in
+    absurd (room-enough (s .args .line .now) (length (s .args .block .now)) (omega arith) (sym (read .read-line .ensures .0) ∙ t .enum-told2 .given .1))
 
 pub answer-line-spec : {M : Type 1} → statement M
 answer-line-spec =
@@ -105,9 +106,9 @@ answer-line-spec =
     part-answer-block-end
     answer-block-requires
     enum-told
-    write-not-hex-requires
+    answer-not-hex-requires
     enum-told-2
-    write-not-hex-requires-2
+    answer-not-hex-requires-2
     same-length
     same-length-2
     returns
