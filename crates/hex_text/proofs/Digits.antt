@@ -1,14 +1,17 @@
--- Laws of digits: what a digit is, that its value is below 16, and that a value's digit has that value.
+-- Laws of digits: what a digit is, that its value is below 16, that a value's digit has that value, and that the code's tables
+-- of bits, of values and of digits are right at each entry, which one computed test for each shows.
 -- Assumes nothing.
-use Prim.Native.Nat.{ℕ, _+_, _<_, _≤_}
+use Prim.Native.Nat.{ℕ, zero, suc, _+_, _-_, _/_, _%_, _^_, _<_, _≤_}
 use mathlib.Core.Path.{_≡_, refl}
-use mathlib.Core.Bool.{true, _&&_, and-eq-true-iff}
+use mathlib.Core.Bool.{Bool, true, _&&_, _||_, not, Bool·beq, and-eq-true-iff}
+use mathlib.Core.List.{List, [], _∷_}
 use mathlib.Core.Logic.{_⊎_, inl, inr, ⊎-elim}
 use native.Mathlib.Omega.{arith}
-use borrow.Author.Tests.{le-leb, lt-leb, ltb-true, ltb-false, leb-true}
-use lib.Dec.{ltb, leb}
-use Rattle.logic.proofs.Choice.{by-cases}
-use Rattle.hex_text.specs.Hex.{isDigit, isPair, digitValue, pairValue, digitOf}
+use borrow.Author.Tests.{le-leb, lt-leb, ltb-true, ltb-false, leb-true, eqb-true, eqb-false}
+use lib.Dec.{ltb, leb, eqb}
+use lib.ListN.{getD}
+use Rattle.logic.proofs.Choice.{by-cases, same, implied}
+use Rattle.hex_text.specs.Hex.{isDigit, isPair, digitValue, pairValue, digitOf, allDigits}
 
 pub digit-ranges : (c : ℕ) → isDigit c ≡ true → ((48 ≤ c) × (c ≤ 57)) ⊎ ((65 ≤ c) × (c ≤ 70))
 digit-ranges c e =
@@ -34,3 +37,40 @@ digit-back n h =
     by-cases (ltb n 10)
     (λ t. let l = ltb-true n 10 t in simp (t, le-leb 48 (n + 48) (omega arith), le-leb (n + 48) 57 (omega arith)) (refl, omega arith))
     (λ f. let l = ltb-false n 10 f in simp (f, le-leb 48 (n + 55) (omega arith), lt-leb (n + 55) 57 (omega arith), le-leb 65 (n + 55) (omega arith), le-leb (n + 55) 70 (omega arith)) (refl, omega arith))
+
+-- a test passes at each number below n
+abbrev every : (ℕ → Bool) → ℕ → Bool
+every f zero = true
+every f (suc n) = f n && every f n
+
+below : (f : ℕ → Bool) (n : ℕ) → every f n ≡ true → (k : ℕ) → k < n → f k ≡ true
+below f zero e k h = absurd (omega arith)
+below f (suc n) e k h =
+    let p = and-eq-true-iff (f n) (every f n) .0 e in
+    by-cases (eqb k n) (λ t. rw (eqb-true k n t) (p .0)) (λ g. below f n (p .1) k (omega (arith, eqb-false k n g)))
+
+-- the bits of the digits
+abbrev bitSet : ℕ → Bool
+bitSet c = (leb 48 c && leb c 70) && eqb (0x03FF007E / 2 ^ (c % 32) % 2) 1
+
+pub bits-right : (c : ℕ) → c < 256 → bitSet c ≡ isDigit c
+bits-right c h = same (bitSet c) (isDigit c) (below (λ (k : ℕ). Bool·beq (bitSet k) (isDigit k)) 256 refl c h)
+
+-- the values of the digits, from `0` on
+abbrev pub allValues : List ℕ
+allValues = 0 ∷ 1 ∷ 2 ∷ 3 ∷ 4 ∷ 5 ∷ 6 ∷ 7 ∷ 8 ∷ 9 ∷ 0 ∷ 0 ∷ 0 ∷ 0 ∷ 0 ∷ 0 ∷ 0 ∷ 10 ∷ 11 ∷ 12 ∷ 13 ∷ 14 ∷ 15 ∷ []
+
+pub digit-place : (c : ℕ) → isDigit c ≡ true → (48 ≤ c) × (c < 71)
+digit-place c e = ⊎-elim (λ (w : (48 ≤ c) × (c ≤ 57)). (w .0, omega arith)) (λ (w : (65 ≤ c) × (c ≤ 70)). (omega arith, omega arith)) (digit-ranges c e)
+
+valueRight : ℕ → Bool
+valueRight c = eqb (getD allValues (c - 48) 0) (digitValue c)
+
+pub values-right : (c : ℕ) → isDigit c ≡ true → getD allValues (c - 48) 0 ≡ digitValue c
+unfolding valueRight
+values-right c e =
+    eqb-true (getD allValues (c - 48) 0) (digitValue c)
+    (implied (isDigit c) (valueRight c) (below (λ (k : ℕ). not (isDigit k) || valueRight k) 71 refl c (digit-place c e .1)) e)
+
+pub digits-right : (n : ℕ) → n < 16 → getD allDigits n 0 ≡ digitOf n
+digits-right n h = eqb-true (getD allDigits n 0) (digitOf n) (below (λ (k : ℕ). eqb (getD allDigits k 0) (digitOf k)) 16 refl n h)

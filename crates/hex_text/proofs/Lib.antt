@@ -1,4 +1,5 @@
 pub mod Digits
+pub mod Spaced
 pub mod Pairs
 pub mod Lines
 pub mod Text

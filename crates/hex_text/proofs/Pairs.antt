@@ -5,13 +5,16 @@ use mathlib.Core.Path.{_≡_, refl, sym, ap, _∙_}
 use mathlib.Core.Bool.{Bool, true, false, cond, _&&_, false≢true, and-true, and-eq-true-iff}
 use mathlib.Core.List.{List, [], _∷_}
 use native.Mathlib.Omega.{arith}
-use native.Mathlib.Nat.{add-zero}
-use borrow.Author.Tests.{le-leb, eqb-true}
+use native.Mathlib.Numerals.{add-one}
+use borrow.Author.Tests.{le-leb, eqb-true, ne-eqb}
 use lib.Dec.{eqb}
 use lib.ListN.{length, drop, getD, length-drop}
 use lib.Seq.{sets, getD-drop, drop-drop}
 use Rattle.logic.proofs.Written.{stores}
-use Rattle.hex_text.specs.Hex.{Line, block, notHex, isBlock, isPair, pairValue, prepend, space, pairs, lineWritten}
+use Rattle.logic.proofs.Choice.{by-cases}
+use Rattle.hex_text.specs.Hex.{Line, block, notHex, isBlock, isPair, pairValue, prepend, space, pairs, spaced, lineWritten}
+use Rattle.hex_text.proofs.Spaced.{one-more, no-more}
+use Rattle.hex_text.proofs.Digits.{allValues, pair-digits, pair-small, digit-place, values-right}
 
 prepend-block : (b : ℕ) (r : Line) → isBlock (prepend b r) ≡ isBlock r
 prepend-block b (block bs) = refl
@@ -21,36 +24,38 @@ cond-block : (t : Bool) (r : Line) → isBlock (cond t r notHex) ≡ t && isBloc
 cond-block true r = refl
 cond-block false r = refl
 
-three-characters : (l : List ℕ) → 2 < length l → isBlock (pairs l) ≡ (isPair (getD l 0 0) (getD l 1 0) && eqb (getD l 2 0) space) && isBlock (pairs (drop 3 l))
+module _ (a b c : ℕ) (l : List ℕ) where
+  pub block-more : isPair a b && eqb c space ≡ true → isBlock (pairs (a ∷ b ∷ c ∷ l)) ≡ isBlock (pairs l)
+  unfolding pairs
+  block-more t = simp t (prepend-block (pairValue a b) (pairs l))
+
+  pub block-other : isPair a b && eqb c space ≡ false → isBlock (pairs (a ∷ b ∷ c ∷ l)) ≡ false
+  unfolding pairs
+  block-other f = simp f
+
+pub block-two : (a b : ℕ) → isBlock (pairs (a ∷ b ∷ [])) ≡ isPair a b
 unfolding pairs
-three-characters [] h = absurd (omega arith)
-three-characters (a ∷ []) h = absurd (omega arith)
-three-characters (a ∷ b ∷ []) h = absurd (omega arith)
-three-characters (a ∷ b ∷ c ∷ l) h = simp (cond-block, prepend-block)
+block-two a b = simp (cond-block, and-true)
 
-two-characters : (l : List ℕ) → length l ≡ 2 → isBlock (pairs l) ≡ isPair (getD l 0 0) (getD l 1 0)
-unfolding pairs
-two-characters [] h = absurd (omega arith)
-two-characters (a ∷ []) h = absurd (omega arith)
-two-characters (a ∷ b ∷ []) h = simp (cond-block, and-true)
-two-characters (a ∷ b ∷ c ∷ l) h = absurd (omega arith)
+LastPair : List ℕ → Type 0
+LastPair l = isBlock (pairs l) ≡ eqb (length l - spaced l) 2 && isPair (getD l (spaced l) 0) (getD l (spaced l + 1) 0)
 
-too-few-characters : (l : List ℕ) → length l < 2 → isBlock (pairs l) ≡ false
-unfolding pairs
-too-few-characters [] h = refl
-too-few-characters (a ∷ []) h = refl
-too-few-characters (a ∷ b ∷ l) h = absurd (omega arith)
+last-pair-more : (a b c : ℕ) (l : List ℕ) → LastPair l → LastPair (a ∷ b ∷ c ∷ l)
+unfolding LastPair
+last-pair-more a b c l e =
+    by-cases (isPair a b && eqb c space)
+    (λ t.
+    let left : length (a ∷ b ∷ c ∷ l) - suc (suc (suc (spaced l))) ≡ length l - spaced l = omega arith in
+    rw (block-more a b c l t, one-more a b c l t, left) (simp add-one (simp add-one at e)))
+    (λ f. rw (block-other a b c l f, no-more a b c l f) (simp (ne-eqb (length (a ∷ b ∷ c ∷ l) - 0) 2 (λ w. omega arith))))
 
--- whether what is left of a line from the place i on is pairs: three characters or more, two, and fewer
-module _ (line : List ℕ) (i : ℕ) where
-  pub three-left : 2 < length line - i → isBlock (pairs (drop i line)) ≡ (isPair (getD line i 0) (getD line (i + 1) 0) && eqb (getD line (i + 2) 0) space) && isBlock (pairs (drop (i + 3) line))
-  three-left h = three-characters (drop i line) (rw length-drop h) ∙ simp (getD-drop, drop-drop, add-zero)
-
-  pub two-left : length line - i ≡ 2 → isBlock (pairs (drop i line)) ≡ isPair (getD line i 0) (getD line (i + 1) 0)
-  two-left h = two-characters (drop i line) (rw length-drop h) ∙ simp (getD-drop, add-zero)
-
-  pub short-left : length line - i < 2 → isBlock (pairs (drop i line)) ≡ false
-  short-left h = too-few-characters (drop i line) (rw length-drop h)
+-- a line is pairs where two characters are left behind the pairs with a space after each, and they are a pair
+pub last-pair : (l : List ℕ) → isBlock (pairs l) ≡ eqb (length l - spaced l) 2 && isPair (getD l (spaced l) 0) (getD l (spaced l + 1) 0)
+unfolding LastPair pairs spaced
+last-pair [] = refl
+last-pair (a ∷ []) = refl
+last-pair (a ∷ b ∷ []) = block-two a b
+last-pair (a ∷ b ∷ c ∷ l) = last-pair-more a b c l (last-pair l)
 
 -- a line of pairs, and its bytes
 pub data Decodes : List ℕ → List ℕ → Type 0 where
@@ -71,6 +76,22 @@ decodes-at (more p d) (suc n) h =
     let e : 3 * suc n ≡ suc (suc (suc (3 * n))) = omega arith in
     let f : 3 * suc n + 1 ≡ suc (suc (suc (3 * n + 1))) = omega arith in
     rw (f, e) (decodes-at d n (omega arith))
+
+-- a pair's characters stand in the table of values, and the two values make the byte
+pub record Here (high low byte : ℕ) : Type 0 where
+  pub high-place : (48 ≤ high) × (high < 71)
+  pub low-place : (48 ≤ low) × (low < 71)
+  pub value : getD allValues (high - 48) 0 * 16 + getD allValues (low - 48) 0 ≡ byte
+  pub fits : byte < 256
+
+here : (high low byte : ℕ) → isPair high low ≡ true → byte ≡ pairValue high low → Here high low byte
+here high low byte p e =
+    let d = pair-digits high low p in record {
+      high-place = digit-place high (d .0);
+      low-place = digit-place low (d .1);
+      value = rw (values-right high (d .0), values-right low (d .1)) (sym e);
+      fits = rw e (pair-small high low p);
+    }
 
 abbrev pub bytesOf : Line → List ℕ
 bytesOf (block bs) = bs
@@ -105,8 +126,8 @@ module _ (line : List ℕ) (pairs-only : isBlock (pairs line) ≡ true) where
   count = decodes-length (decodes line pairs-only)
 
   -- what stands at the place of the byte n
-  pub pair-here : (i n : ℕ) → i ≡ 3 * n → i < length line → (isPair (getD line i 0) (getD line (i + 1) 0) ≡ true) × (getD (bytesOf (pairs line)) n 0 ≡ pairValue (getD line i 0) (getD line (i + 1) 0))
-  pair-here i n place h = rw place (decodes-at (decodes line pairs-only) n (omega (arith, count)))
+  pub pair-here : (i n : ℕ) → i ≡ 3 * n → i < length line → Here (getD line i 0) (getD line (i + 1) 0) (getD (bytesOf (pairs line)) n 0)
+  pair-here i n place h = rw place (let d = decodes-at (decodes line pairs-only) n (omega (arith, count)) in here _ _ _ (d .0) (d .1))
 
   pub all-written : (buffer : List ℕ) → length (bytesOf (pairs line)) ≤ length buffer → lineWritten (pairs line) buffer ≡ sets buffer 0 (bytesOf (pairs line))
   all-written buffer room =

@@ -53,6 +53,13 @@ pairs (high ∷ []) = notHex
 pairs (high ∷ low ∷ []) = cond (isPair high low) (block (pairValue high low ∷ [])) notHex
 pairs (high ∷ low ∷ c ∷ rest) = cond (isPair high low && eqb c space) (prepend (pairValue high low) (pairs rest)) notHex
 
+-- how many characters at the front are pairs with a space after each
+unfoldable pub spaced : List ℕ → ℕ
+spaced [] = 0
+spaced (high ∷ []) = 0
+spaced (high ∷ low ∷ []) = 0
+spaced (high ∷ low ∷ c ∷ rest) = cond (isPair high low && eqb c space) (spaced rest + 3) 0
+
 -- no character at all stands for the empty block; the line feed is not one of the line's characters
 unfoldable pub hexLine : List ℕ → Line
 hexLine line = cond (ltb lineMax (length line)) notHex (cond (eqb (length line) 0) (block []) (pairs line))
@@ -78,6 +85,10 @@ lineWritten (block bs) buffer = writtenIn buffer bs
 -- the digit of a number below 16
 abbrev pub digitOf : ℕ → ℕ
 digitOf n = cond (ltb n 10) (n + 48) (n + 55)
+
+-- the digits of 0 to 15
+abbrev pub allDigits : List ℕ
+allDigits = 48 ∷ 49 ∷ 50 ∷ 51 ∷ 52 ∷ 53 ∷ 54 ∷ 55 ∷ 56 ∷ 57 ∷ 65 ∷ 66 ∷ 67 ∷ 68 ∷ 69 ∷ 70 ∷ []
 
 -- a block as upper-case hex pairs parted by one space
 unfoldable pub hexText : List ℕ → List ℕ

@@ -4,10 +4,10 @@ ghost use mathlib.Core.Path.{_≡_};
 ghost use mathlib.Core.Bool.{true};
 ghost use mathlib.Core.List.{[], _∷_};
 ghost use Prim.Native.Nat.{_+_, _*_, _/_, _%_, _<_, _≤_};
-ghost use lib.ListN.{length};
+ghost use lib.ListN.{length, drop};
 ghost use lib.Seq.{sets};
 ghost use Rattle.logic.specs.Written.{written};
-ghost use Rattle.hex_text.specs.Hex.{isDigit, isPair, digitValue, pairValue, isBlock, pairs, hexLine, lineAnswer, lineWritten, digitOf, hexText, refusedText, notHexText, printed, lengthIn, writtenIn};
+ghost use Rattle.hex_text.specs.Hex.{isDigit, isPair, isBlock, pairs, spaced, hexLine, lineAnswer, lineWritten, digitOf, allDigits, hexText, refusedText, notHexText, printed, lengthIn, writtenIn};
 
 // The most characters of a line of hex.
 pub const LINE_MAX: usize = 600;
@@ -15,9 +15,6 @@ pub const LINE_MAX: usize = 600;
 const SPACE: u8 = b' ';
 
 pub const LINE_FEED: u8 = b'\n';
-
-// What a letter is above the number that it stands for.
-const LETTERS: u8 = b'A' - 10;
 
 // What a line is.
 pub enum HexLine {
@@ -29,59 +26,71 @@ pub enum HexLine {
     NoRoom,
 }
 
+// A bit for each digit, whose place is what is left of the digit when it is divided by 32.
+const DIGIT_BITS: u32 = 0x03FF007E;
+
 fn is_digit(c: u8) -> bool
     ensures { λ r. ⌜ r ≡ isDigit c ⌝ }
 {
-    ((b'0' <= c) & (c <= b'9')) | ((b'A' <= c) & (c <= b'F'))
+    (b'0' <= c) & (c <= b'F') & ((DIGIT_BITS >> (c % 32)) % 2 == 1)
 }
 
 fn is_pair(high: u8, low: u8) -> bool
     ensures { λ r. ⌜ r ≡ isPair high low ⌝ }
 {
-    is_digit(high) & is_digit(low)
+    if !is_digit(high) {
+        return false;
+    }
+    is_digit(low)
+}
+
+// The place that pairs with a space after each go to, from `from` on.
+fn skip_pairs(text: &[u8], from: usize) -> usize
+    requires { ⌜ from ≤ length (now text) ⌝ }
+    ensures { λ r. ⌜ r ≡ from + spaced (drop from (now (text .entry))) ⌝ }
+{
+    let mut i = from;
+    while text.len() - i > 2 {
+        if text[i + 2] != SPACE {
+            return i;
+        }
+        if !is_pair(text[i], text[i + 1]) {
+            return i;
+        }
+        i += 3;
+    }
+    i
 }
 
 // Whether a line is one pair or more, parted by one space.
 fn is_pairs(line: &[u8]) -> bool
     ensures { λ r. ⌜ r ≡ isBlock (pairs (now (line .entry))) ⌝ }
 {
-    let mut i = 0;
-    while line.len() - i > 2 {
-        if is_pair(line[i], line[i + 1]) & (line[i + 2] == SPACE) {
-            i += 3;
-        } else {
-            return false;
-        }
-    }
-    if line.len() - i < 2 {
+    let last = skip_pairs(line, 0);
+    if line.len() - last != 2 {
         return false;
     }
-    is_pair(line[i], line[i + 1])
+    is_pair(line[last], line[last + 1])
 }
 
-fn digit_value(c: u8) -> u8
-    requires { ⌜ isDigit c ≡ true ⌝ }
-    ensures { λ r. ⌜ r ≡ digitValue c ⌝ }
-{
-    if c <= b'9' { c - b'0' } else { c - LETTERS }
-}
+const ZERO: usize = b'0' as usize;
 
-fn pair_value(high: u8, low: u8) -> u8
-    requires { ⌜ isPair high low ≡ true ⌝ }
-    ensures { λ r. ⌜ r ≡ pairValue high low ⌝ }
-{
-    digit_value(high) * 16 + digit_value(low)
-}
+// The value of each digit, from `0` on. The characters between `9` and `A` are no digits.
+const VALUES: [u8; 23] =
+    *b"\x00\x01\x02\x03\x04\x05\x06\x07\x08\x09\0\0\0\0\0\0\0\x0A\x0B\x0C\x0D\x0E\x0F";
 
 // Puts the bytes of a line of pairs over the front of `block`, which has room for them.
 fn decode(line: &[u8], block: &mut [u8])
     requires { ⌜ (isBlock (pairs (now line)) ≡ true) × (length (now line) < 3 * length (now block)) ⌝ }
     ensures { λ _. ⌜ now (block .exit) ≡ lineWritten (pairs (now (line .entry))) (now (block .entry)) ⌝ }
 {
+    let values = VALUES;
     let mut i = 0;
     let mut n = 0;
     while i < line.len() {
-        block[n] = pair_value(line[i], line[i + 1]);
+        let high = values[line[i] as usize - ZERO];
+        let low = values[line[i + 1] as usize - ZERO];
+        block[n] = high * 16 + low;
         n += 1;
         i += 3;
     }
@@ -110,20 +119,15 @@ pub fn read_line(line: &[u8], block: &mut [u8]) -> HexLine
     HexLine::Block(count)
 }
 
-fn digit_of(n: u8) -> u8
-    requires { ⌜ n < 16 ⌝ }
-    ensures { λ r. ⌜ r ≡ digitOf n ⌝ }
-{
-    if n < 10 { n + b'0' } else { n + LETTERS }
-}
+const DIGITS: [u8; 16] = *b"0123456789ABCDEF";
 
 // Writes a byte's two digits and the character after them, from `at` on.
-fn write_pair(byte: u8, after: u8, out: &mut [u8], at: usize)
-    requires { ⌜ at + 3 ≤ length (now out) ⌝ }
+fn write_pair(digits: &[u8; 16], byte: u8, after: u8, out: &mut [u8], at: usize)
+    requires { ⌜ (now digits ≡ allDigits) × (at + 3 ≤ length (now out)) ⌝ }
     ensures { λ _. ⌜ now (out .exit) ≡ sets (now (out .entry)) at (digitOf (byte / 16) ∷ digitOf (byte % 16) ∷ after ∷ []) ⌝ }
 {
-    out[at] = digit_of(byte / 16);
-    out[at + 1] = digit_of(byte % 16);
+    out[at] = digits[(byte / 16) as usize];
+    out[at + 1] = digits[(byte % 16) as usize];
     out[at + 2] = after;
 }
 
@@ -132,14 +136,15 @@ fn encode(bytes: &[u8], out: &mut [u8]) -> usize
     requires { ⌜ (0 < length (now bytes)) × (3 * length (now bytes) ≤ length (now out)) ⌝ }
     ensures { λ r. ⌜ (r ≡ length (printed (hexText (now (bytes .entry))))) × (now (out .exit) ≡ written (now (out .entry)) (printed (hexText (now (bytes .entry))))) ⌝ }
 {
+    let digits = DIGITS;
     let mut i = 0;
     let mut at = 0;
     while i + 1 < bytes.len() {
-        write_pair(bytes[i], SPACE, out, at);
+        write_pair(&digits, bytes[i], SPACE, out, at);
         i += 1;
         at += 3;
     }
-    write_pair(bytes[i], LINE_FEED, out, at);
+    write_pair(&digits, bytes[i], LINE_FEED, out, at);
     at + 3
 }
 

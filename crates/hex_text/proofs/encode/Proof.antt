@@ -14,14 +14,14 @@ use Rattle.hex_text.proofs.encode.Statement.{statement}
 use Rattle.hex_text.proofs.encode.Tie as tie
 
 abbrev Inv-loop : tie.InvT-loop
-Inv-loop bytes out₀ i₀ at₀ out i at =
+Inv-loop bytes out₀ digits i₀ at₀ out i at =
     (length out ≡ length out₀)
     × (at ≡ 3 * i)
     × (i < length bytes)
     × (sets out₀ 0 (printed (hexText bytes)) ≡ sets out at (printed (hexText (drop i bytes))))
 
 abbrev μ-loop : tie.MeasureT-loop
-μ-loop bytes out₀ i₀ at₀ out i at = length bytes - i
+μ-loop bytes out₀ digits i₀ at₀ out i at = length bytes - i
 
 loop-holds : tie.Need-loop-holds Inv-loop μ-loop
 loop-holds c = (refl, refl, search needs, refl)
@@ -33,7 +33,7 @@ shared-slice-read-write-pair : tie.Need-shared-slice-read-write-pair Inv-loop μ
 shared-slice-read-write-pair c = search needs
 
 write-pair-requires : tie.Need-write-pair-requires Inv-loop μ-loop
-write-pair-requires c κs = search needs
+write-pair-requires c κs = (refl, search needs)
 
 add-i : tie.Need-add-i Inv-loop μ-loop
 add-i c = search needs
@@ -46,8 +46,8 @@ loop-less c = search needs
 
 loop-again : tie.Need-loop-again Inv-loop μ-loop
 loop-again c =
-    let l = c .before .before .before .before .before .before .loop in (
-      c .before .before .write-pair .kept .1 .1 .0 ∙ l .inv .0,
+    let l = c .before .before .before .before .before .before .before .loop in (
+      c .before .before .write-pair .kept .1 .1 .1 .0 ∙ l .inv .0,
       omega arith,
       search needs,
       l .inv .3 ∙ ap (sets (l .out) (l .at)) (more-left _ (l .i) (search needs)) ∙ rw (c .before .before .write-pair .ensures, add-three),
@@ -57,7 +57,7 @@ shared-slice-read-write-pair-2 : tie.Need-shared-slice-read-write-pair-2 Inv-loo
 shared-slice-read-write-pair-2 c = search needs
 
 write-pair-requires-2 : tie.Need-write-pair-requires-2 Inv-loop μ-loop
-write-pair-requires-2 c κs = search needs
+write-pair-requires-2 c κs = (refl, search needs)
 
 add-result : tie.Need-add-result Inv-loop μ-loop
 add-result c = search needs
@@ -67,8 +67,8 @@ same-length c = search needs
 
 returns : tie.Need-returns Inv-loop μ-loop
 returns c =
-    let l = c .before .before .before .before .before .before .loop in
-    let start = c .before .before .before .before .before .before .before .before .before in
+    let l = c .before .before .before .before .before .before .before .loop in
+    let start = c .before .before .before .before .before .before .before .before .before .before in
     let long = hexText-length (start .args .bytes .now) (start .pre .0) in (
       omega (arith, long),
       c .before .before .write-pair2 .ensures

@@ -1,20 +1,28 @@
--- `hex_text::write_pair` meets its contract: its stores are the list's, one after the other.
+-- `hex_text::write_pair` meets its contract: its stores are the list's, one after the other, and the table has the digit of each number below 16.
 -- Assumes nothing.
+use Prim.Native.Nat.{_/_, _%_}
 use native.Mathlib.Numerals.{add-one, add-two}
 use native.Mathlib.Omega.{arith}
 use borrow.Author.Needs.{needs}
 use lib.ListN.{length-set}
+use Rattle.hex_text.proofs.Digits.{digits-right}
 use Rattle.hex_text.proofs.write_pair.Statement.{statement}
 use Rattle.hex_text.proofs.write_pair.Tie as tie
 
-digit-of-requires : tie.Need-digit-of-requires
-digit-of-requires c κs = search needs
+cast-out : tie.Need-cast-out
+cast-out c = search needs
+
+element-copy-out-out : tie.Need-element-copy-out-out
+element-copy-out-out c = search needs
 
 slice-write-out : tie.Need-slice-write-out
 slice-write-out c = search needs
 
-digit-of-requires-2 : tie.Need-digit-of-requires-2
-digit-of-requires-2 c κs = search needs
+cast-out-2 : tie.Need-cast-out-2
+cast-out-2 c = search needs
+
+element-copy-out-out-2 : tie.Need-element-copy-out-out-2
+element-copy-out-out-2 c = search needs
 
 add-out : tie.Need-add-out
 add-out c = search needs
@@ -32,15 +40,19 @@ same-length : tie.Need-same-length
 same-length c = search needs
 
 returns : tie.Need-returns
-returns c = simp (c .before .digit-of .ensures, c .digit-of2 .ensures, add-one, add-two)
+returns c =
+    let byte = c .before .before .args .byte in
+    simp (c .before .before .pre .0, digits-right (byte / 16) (search needs), digits-right (byte % 16) (search needs), add-one, add-two)
 
 pub write-pair-spec : {M : Type 1} → statement M
 write-pair-spec =
     tie.close
     (tie.spec
-    digit-of-requires
+    cast-out
+    element-copy-out-out
     slice-write-out
-    digit-of-requires-2
+    cast-out-2
+    element-copy-out-out-2
     add-out
     slice-write-out-2
     add-out-2
