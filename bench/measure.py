@@ -60,9 +60,10 @@ def timed(folder, program, log):
         done = subprocess.run(
             words, stdin=given, stdout=subprocess.DEVNULL, stderr=subprocess.PIPE, text=True, check=False
         )
-    if done.returncode != 0:
+    said = done.stderr.splitlines()
+    if done.returncode != 0 or len(said) != 1:
         raise Problem(done.stderr.strip())
-    seconds, kilobytes = done.stderr.split()
+    seconds, kilobytes = said[0].split()
     return float(seconds), int(kilobytes)
 
 
@@ -82,12 +83,15 @@ def check_same_output(folder, log):
         raise Problem("replay and the C peer print different bytes")
 
 
+UNASKED = "C peer that never asks whether the state is valid"
+
+
 def throughput(folder, plan):
     """Replay and the C peer in turn on the same typical lines."""
     log = folder / "log"
     traffic.write_typical(log, plan.megabytes)
     check_same_output(folder, log)
-    programs = {"replay": REPLAY, "C peer": folder / "peer"}
+    programs = {"replay": REPLAY, "C peer": folder / "peer", UNASKED: folder / "peer_unasked"}
     speeds = {name: [] for name in programs}
     for _ in range(plan.rounds):
         for name, program in programs.items():
@@ -103,7 +107,9 @@ def throughput_text(plan, speeds):
     ratio = medians["replay"] / medians["C peer"]
     return (
         f"### Replay on {plan.megabytes} MB of typical lines, {plan.rounds} rounds in turn\n\n"
-        "Of eight lines five are reads, two Writes and one a Program; one in 36 is refused. Both print the same bytes.\n\n"
+        "Of eight lines five are reads, two Writes and one a Program; one in 36 is refused. All print the same bytes. The C peer "
+        "looks at the whole state at each block, as document 01 says of the unit; replay looks at it once for each part of the "
+        "input that it reads, since it is proved that no step changes whether a state is valid.\n\n"
         + table(("Program", "MB/s, median", "least", "most"), *rows)
         + f"\nRatio of the medians, replay's to the C peer's: {ratio:.2f}, or {1 / ratio:.2f} times its time.\n"
     )
@@ -145,7 +151,8 @@ def instructions(folder, library, block):
     """Instructions from the entry of a call to its return, by callgrind; each call costs the same. Of memcpy
     and its like they are those of the variant that libc takes under valgrind."""
     words = ["valgrind", "--tool=callgrind", f"--toggle-collect={library}_execute"]
-    words += [f"--callgrind-out-file={folder / 'callgrind.out'}", f"--log-file={folder / 'callgrind.log'}"]
+    made = str(folder).replace("%", "%%")  # valgrind takes a single one for a name of its own
+    words += [f"--callgrind-out-file={made}/callgrind.out", f"--log-file={made}/callgrind.log"]
     output_of([*words, folder / f"count_{library}", str(COUNTED), *block.split()])
     log = (folder / "callgrind.log").read_text(encoding="utf-8")
     collected = re.search(r"Collected : (\d+)", log)
@@ -208,7 +215,8 @@ def conditions():
     load = os.getloadavg()[0]
     return (
         f"Measured on {day}: {processor()}, {os.cpu_count()} cores, load {load:.1f} before the start; "
-        f"{gcc}, -O2; {valgrind}. 1 MB is 1,000,000 bytes, 1 kB is 1,024.\n"
+        f"the C peer by {gcc}, -O2, replay and the library as the toolchain builds them; {valgrind}. 1 MB is 1,000,000 bytes, "
+        "1 kB is 1,024.\n"
     )
 
 

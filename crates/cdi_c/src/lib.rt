@@ -1,6 +1,6 @@
 // The entries behind the C ABI; include/cdi.h declares them and tells what each reads and writes. The state stays where the controller
-// has it and is updated there (document 01, "Items", the bay controller's record): an entry copies it, calls the function by value and
-// stores what that gives.
+// has it and is updated there (document 01, "Items", the bay controller's record): an entry copies it, calls a function by value and
+// stores the state that this gives. Where a block stores nothing, `cdi_execute` leaves the state alone.
 ghost use mathlib.Core.Path.{_≡_};
 ghost use lib.ListN.{length};
 ghost use Rattle.refusal.specs.Refusal.{outcomeOf, bufferAfter};

@@ -36,7 +36,7 @@ pub struct PowerUp {
     pub refusal: u8,
 }
 
-// What is decided on a block, its payload as it was validated, whether that stores anything, and what came of it.
+// What is decided on a block: the command, or the number of its refusal, whether that stores anything, and what came of it.
 pub struct Decided {
     pub validated: Validated,
     pub stores: bool,
@@ -117,7 +117,8 @@ fn is_known_or_valid(known: bool, state: ModuleState) -> bool
     state.is_valid()
 }
 
-// The same for a state that may be known to be valid: no step changes whether a state is, so who runs many blocks asks once.
+// The same for a state that may be known to be valid: no step changes whether a state is, so who runs many blocks asks once. Where
+// `known` is false it is `respond`. Who says that an invalid state is valid has it taken so, as the contract tells.
 pub fn respond_known(known: bool, state: ModuleState, block: &[u8], response: &mut [u8]) -> Decided
     ensures { λ r. ⌜ Responds state (decideIf (known || isValid state) (now (block .entry)) (now (response .entry))) (now (response .entry)) (now (response .exit)) r ⌝ }
 {

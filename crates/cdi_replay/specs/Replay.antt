@@ -8,7 +8,8 @@ use Rattle.hex_text.specs.Hex.{Line, block, notHex, hexLine, hexText, refusedTe
 use Rattle.cdi_state.specs.declared.ModuleState.{ModuleState}
 use Rattle.cdi_state.specs.State.{factoryState}
 use Rattle.cdi_model.specs.Step.{Step, command, StepResult, poweredUp, responded}
-use Rattle.cdi_module.specs.Module.{responseMax, step, resultOf}
+use Rattle.cdi_model.specs.Model.{responseBufferMin}
+use Rattle.cdi_module.specs.Module.{step, resultOf}
 
 -- ---- the lines of an input
 -- a character before the first line, which it makes up alone where there is none
@@ -24,16 +25,16 @@ lines (c ∷ chars) = cond (eqb c lineFeed) ([] ∷ lines chars) (longer c (line
 -- ---- one line
 -- the step of a block: each has a response buffer of its own
 abbrev pub blockStep : List ℕ → Step
-blockStep bytes = command bytes (replicate responseMax 0)
+blockStep bytes = command bytes (replicate responseBufferMin 0)
 
 -- "the answer in the same form, or `refused` and the number": a refusal has the length 0
-abbrev pub outcomeText : ℕ → ℕ → List ℕ → List ℕ
-outcomeText refusal length response = cond (eqb length 0) (refusedText refusal) (hexText (take length response))
+abbrev pub outcomeText : (refusal size : ℕ) (response : List ℕ) → List ℕ
+outcomeText refusal size response = cond (eqb size 0) (refusedText refusal) (hexText (take size response))
 
 -- no line stands for a power-up; one would print its number
 abbrev pub resultText : StepResult → List ℕ
 resultText (poweredUp refusal) = refusedText refusal
-resultText (responded refusal length response) = outcomeText refusal length response
+resultText (responded refusal size response) = outcomeText refusal size response
 
 -- what is printed for a line: "a line of any other form .. prints `not hex`"
 abbrev pub lineText : ModuleState → Line → List ℕ

@@ -28,7 +28,7 @@ const BLOCK_MAX: usize = (LINE_MAX + 1) / 3;
 // answered in less room.
 pub const PRINTED_MAX: usize = 3 * RESPONSE_MAX;
 
-// What one line gives: its payload as it was validated, whether that stores anything, and how many bytes of the output it takes.
+// What one line gives: the command that it stores by, where it stores anything, and how many bytes of the output it takes.
 struct LineAnswer {
     validated: Validated,
     stores: bool,
@@ -73,7 +73,7 @@ fn answer_block(known: bool, state: ModuleState, block: &[u8], out: &mut [u8]) -
     }
 }
 
-// A line that is not hex stores nothing.
+// A line that is not hex stores nothing, so no command is told.
 fn answer_not_hex(out: &mut [u8]) -> LineAnswer
     requires { ⌜ printedMax ≤ length (now out) ⌝ }
     ensures { λ r. ⌜ (r .validated ≡ Validated.Refused 0) × (r .stores ≡ false) × Prints notHexText (now (out .entry)) (now (out .exit)) (r .printed) ⌝ }
