@@ -2,5 +2,6 @@ pub mod Digits
 pub mod Spaced
 pub mod Pairs
 pub mod Lines
+pub mod Ends
 pub mod Text
 pub mod Laws

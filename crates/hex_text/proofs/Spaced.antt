@@ -21,7 +21,7 @@ three-characters (a ∷ []) h = absurd (omega arith)
 three-characters (a ∷ b ∷ []) h = absurd (omega arith)
 three-characters (a ∷ b ∷ c ∷ l) h = refl
 
-too-few-characters : (l : List ℕ) → length l ≤ 2 → spaced l ≡ 0
+pub too-few-characters : (l : List ℕ) → length l ≤ 2 → spaced l ≡ 0
 unfolding spaced
 too-few-characters [] h = refl
 too-few-characters (a ∷ []) h = refl

@@ -3,8 +3,9 @@ use Prim.Native.Nat.{ℕ, _+_, _-_, _*_, _/_, _%_}
 use mathlib.Core.Bool.{Bool, true, false, cond, _&&_, _||_}
 use mathlib.Core.List.{List, [], _∷_, _++_}
 use lib.Dec.{ltb, leb, eqb}
-use lib.ListN.{length}
+use lib.ListN.{length, take, drop}
 use Rattle.logic.specs.Written.{written}
+use Rattle.bytes.specs.Bytes.{indexOf}
 use Rattle.hex_text.specs.declared.HexLine.{HexLine}
 use Rattle.hex_text.specs.declared.HexLine.the-variants.{Block, NotHex, NoRoom}
 
@@ -59,6 +60,21 @@ spaced [] = 0
 spaced (high ∷ []) = 0
 spaced (high ∷ low ∷ []) = 0
 spaced (high ∷ low ∷ c ∷ rest) = cond (isPair high low && eqb c space) (spaced rest + 3) 0
+
+-- whether a pair stands at the front, with a line feed or nothing behind it
+unfoldable pub lastPair : List ℕ → Bool
+lastPair [] = false
+lastPair (high ∷ []) = false
+lastPair (high ∷ low ∷ []) = isPair high low
+lastPair (high ∷ low ∷ c ∷ rest) = isPair high low && eqb c lineFeed
+
+-- the line that starts at a place of a text, without its line feed; its end is the place of the line feed, or of the text's end
+-- where there is none, and a line that would start past the text's end is empty and ends there
+abbrev pub lineFrom : ℕ → List ℕ → List ℕ
+lineFrom from text = take (indexOf lineFeed (drop from text)) (drop from text)
+
+abbrev pub lineEnd : ℕ → List ℕ → ℕ
+lineEnd from text = cond (leb from (length text)) (from + indexOf lineFeed (drop from text)) (length text)
 
 -- no character at all stands for the empty block; the line feed is not one of the line's characters
 unfoldable pub hexLine : List ℕ → Line

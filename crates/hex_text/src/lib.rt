@@ -7,7 +7,7 @@ ghost use Prim.Native.Nat.{_+_, _*_, _/_, _%_, _<_, _≤_};
 ghost use lib.ListN.{length, drop};
 ghost use lib.Seq.{sets};
 ghost use Rattle.logic.specs.Written.{written};
-ghost use Rattle.hex_text.specs.Hex.{isDigit, isPair, isBlock, pairs, spaced, hexLine, lineAnswer, lineWritten, digitOf, allDigits, hexText, refusedText, notHexText, printed, lengthIn, writtenIn};
+ghost use Rattle.hex_text.specs.Hex.{isDigit, isPair, isBlock, pairs, spaced, lastPair, lineFrom, lineEnd, hexLine, lineAnswer, lineWritten, digitOf, allDigits, hexText, refusedText, notHexText, printed, lengthIn, writtenIn};
 
 // The most characters of a line of hex.
 pub const LINE_MAX: usize = 600;
@@ -96,18 +96,12 @@ fn decode(line: &[u8], block: &mut [u8])
     }
 }
 
-// Reads a line, without its line feed, into the front of `block`. A line that is no block, or whose block does not fit,
-// leaves the buffer as it was: nothing is written before the whole line is known to be good.
-pub fn read_line(line: &[u8], block: &mut [u8]) -> HexLine
+// Reads a line of pairs into the front of `block`, where it is not too long and its block fits.
+fn read_pairs(line: &[u8], block: &mut [u8]) -> HexLine
+    requires { ⌜ isBlock (pairs (now line)) ≡ true ⌝ }
     ensures { λ r. ⌜ (r ≡ lineAnswer (hexLine (now (line .entry))) (length (now (block .entry)))) × (now (block .exit) ≡ lineWritten (hexLine (now (line .entry))) (now (block .entry))) ⌝ }
 {
     if line.len() > LINE_MAX {
-        return HexLine::NotHex;
-    }
-    if line.len() == 0 {
-        return HexLine::Block(0);
-    }
-    if !is_pairs(line) {
         return HexLine::NotHex;
     }
     // The last pair has no space after it.
@@ -117,6 +111,75 @@ pub fn read_line(line: &[u8], block: &mut [u8]) -> HexLine
     }
     decode(line, block);
     HexLine::Block(count)
+}
+
+// Reads a line, without its line feed, into the front of `block`. A line that is no block, or whose block does not fit,
+// leaves the buffer as it was: nothing is written before the whole line is known to be good.
+pub fn read_line(line: &[u8], block: &mut [u8]) -> HexLine
+    ensures { λ r. ⌜ (r ≡ lineAnswer (hexLine (now (line .entry))) (length (now (block .entry)))) × (now (block .exit) ≡ lineWritten (hexLine (now (line .entry))) (now (block .entry))) ⌝ }
+{
+    if line.len() == 0 {
+        return HexLine::Block(0);
+    }
+    if !is_pairs(line) {
+        return HexLine::NotHex;
+    }
+    read_pairs(line, block)
+}
+
+// A line of a text: what it is, and the place of its line feed, or of the text's end where it has none.
+pub struct LineAt {
+    pub line: HexLine,
+    pub end: usize,
+}
+
+// Whether a pair stands at `at`, with a line feed or the end of the text behind it.
+fn ends_line(text: &[u8], at: usize) -> bool
+    requires { ⌜ at ≤ length (now text) ⌝ }
+    ensures { λ r. ⌜ r ≡ lastPair (drop at (now (text .entry))) ⌝ }
+{
+    if text.len() - at < 2 {
+        return false;
+    }
+    if text.len() - at == 2 {
+        return is_pair(text[at], text[at + 1]);
+    }
+    if text[at + 2] != LINE_FEED {
+        return false;
+    }
+    is_pair(text[at], text[at + 1])
+}
+
+// Reads the line of `text` that starts at `from` into the front of `block`, as `read_line` does, and finds where it ends. A line
+// of pairs is passed once. Where `from` is past the end of the text, the line is empty and ends there.
+pub fn read_line_at(text: &[u8], from: usize, block: &mut [u8]) -> LineAt
+    ensures { λ r. ⌜ (r .end ≡ lineEnd from (now (text .entry)))
+        × (r .line ≡ lineAnswer (hexLine (lineFrom from (now (text .entry)))) (length (now (block .entry))))
+        × (now (block .exit) ≡ lineWritten (hexLine (lineFrom from (now (text .entry)))) (now (block .entry))) ⌝ }
+{
+    if from > text.len() {
+        return LineAt {
+            line: HexLine::Block(0),
+            end: text.len(),
+        };
+    }
+    let last = skip_pairs(text, from);
+    if ends_line(text, last) {
+        let end = last + 2;
+        let line = read_pairs(&text[from..end], block);
+        return LineAt { line, end };
+    }
+    let end = bytes::scan::find(text, last, text.len(), LINE_FEED);
+    if end == from {
+        return LineAt {
+            line: HexLine::Block(0),
+            end,
+        };
+    }
+    LineAt {
+        line: HexLine::NotHex,
+        end,
+    }
 }
 
 const DIGITS: [u8; 16] = *b"0123456789ABCDEF";
