@@ -7,10 +7,10 @@ use native.Mathlib.Nat.{zero-add, sub-zero}
 use native.Mathlib.Omega.{arith}
 use borrow.Author.Tests.{le-leb, lt-leb}
 use lib.ListN.{length, take, drop, length-append, length-drop, take-append-drop}
-use lib.Seq.{take-all, take-length, take-at, drop-at, drop-drop, length-take-le}
+use lib.Seq.{take-all, take-at, drop-at, drop-drop, length-take-le}
 use Rattle.logic.specs.Written.{written}
 use Rattle.logic.proofs.Rest.{nothing-left}
-use Rattle.bytes.specs.Bytes.{slice, indexOf}
+use Rattle.bytes.specs.Bytes.{indexOf}
 use Rattle.hex_text.specs.Hex.{hexLine, printed, lineFeed}
 use Rattle.cdi_state.specs.declared.ModuleState.{ModuleState}
 use Rattle.cdi_replay.specs.Replay.{lines, lineText, lineState, linesText, linesState}
@@ -71,15 +71,10 @@ abbrev lineAt : List ℕ → ℕ → ℕ → List ℕ
 lineAt input start end = take (end - start) (drop start input)
 
 -- where the next line feed is found
-module _ (input : List ℕ) (start end : ℕ) (place : end ≡ start + indexOf lineFeed (slice start (length input) input)) where
-  found : end ≡ start + indexOf lineFeed (drop start input)
-  unfolding slice
-  found = rw (take-length input) at place
-
+module _ (input : List ℕ) (start end : ℕ) (found : end ≡ start + indexOf lineFeed (drop start input)) where
   next-line : end < length input
       → lines (wholePart (drop start input)) ≡ lineAt input start end ∷ lines (wholePart (drop (end + 1) input))
   next-line inside =
-      let here = found in
       let size = length-drop start input in
       let some = line-found (drop start input) (omega arith) in
       let width : indexOf lineFeed (drop start input) ≡ end - start = omega arith in
@@ -90,12 +85,11 @@ module _ (input : List ℕ) (start end : ℕ) (place : end ≡ start + indexOf l
 
   none-whole : length input ≤ end → lines (wholePart (drop start input)) ≡ []
   none-whole outside =
-      let here = found in
       no-whole-line (drop start input) (none-found (drop start input) (omega (arith, length-drop start input)))
 
   -- one line more is answered
   module _ (s current next : ModuleState) (before output after : List ℕ) (used count : ℕ) (same : length output ≡ length before)
-      (so-far : SoFar s input before current start used output) (inside : end < length input) (ordered : start ≤ end)
+      (so-far : SoFar s input before current start used output) (inside : end < length input)
       (room : printedMax ≤ length output - used) (state : next ≡ lineState current (hexLine (lineAt input start end)))
       (text : Prints (lineText current (hexLine (lineAt input start end))) (take (length output - used) (drop used output)) after count) where
     one-more : toAnswer current input start (length before - used) ≡ lineAt input start end ∷ toAnswer next input (end + 1) (length before - (used + count))
@@ -132,10 +126,10 @@ no-room current input start room short = none (lines (wholePart (drop start inpu
     none (l ∷ ls) = simp (lt-leb printedMax room short)
 
 -- ... and where no line feed is left
-pub no-line : (current : ModuleState) (input : List ℕ) (start end room : ℕ) → end ≡ start + indexOf lineFeed (slice start (length input) input)
+pub no-line : (current : ModuleState) (input : List ℕ) (start end room : ℕ) → end ≡ start + indexOf lineFeed (drop start input)
     → length input ≤ end → toAnswer current input start room ≡ []
 unfolding fitting
-no-line current input start end room place outside = rw (none-whole input start end place outside)
+no-line current input start end room found outside = rw (none-whole input start end found outside)
 
 -- where nothing is left to be answered, what is answered is all
 module _ (s current : ModuleState) (input before output : List ℕ) (start used : ℕ) (same : length output ≡ length before)

@@ -33,6 +33,11 @@ inside [] some = absurd (false≢true some)
 inside (c ∷ chars) some =
     by-cases (eqb c lineFeed) (λ t. simp t (omega arith)) (λ f. simp f (omega (arith, inside chars (simp f at some))))
 
+pub line-within : (chars : List ℕ) → indexOf lineFeed chars ≤ length chars
+unfolding indexOf indexAfter
+line-within [] = omega arith
+line-within (c ∷ chars) = by-cases (eqb c lineFeed) (λ t. simp t (omega arith)) (λ f. simp f (omega (arith, line-within chars)))
+
 -- ---- the first line
 -- it ends before the first line feed, whether all lines are asked for, with whatever follows, ...
 pub first-line : (chars later : List ℕ) → hasLineFeed chars ≡ true

@@ -1,35 +1,49 @@
--- What the reader's answer to a line says of the line.
+-- What the reader's answer to a line says of the line, and where the line ends.
 -- Assumes nothing.
-use Prim.Native.Nat.{ℕ, _≤_}
-use mathlib.Core.Path.{_≡_, refl, sym, ap, _∙_}
+use Prim.Native.Nat.{ℕ, _+_, _-_, _≤_}
+use mathlib.Core.Path.{_≡_, refl, ap, _∙_}
 use mathlib.Core.List.{List}
 use native.Mathlib.Omega.{arith}
-use borrow.Author.Tests.{leb-true}
+use borrow.Author.Tests.{leb-true, le-leb}
 use lib.Dec.{leb}
-use lib.ListN.{length, take}
-use Rattle.logic.specs.Written.{written}
+use lib.ListN.{length, take, drop, length-drop}
 use Rattle.logic.proofs.Choice.{by-cases}
 use Rattle.logic.proofs.Written.{written-front}
-use Rattle.hex_text.specs.declared.HexLine.the-variants.{Block, NotHex, NoRoom}
-use Rattle.hex_text.specs.Hex.{Line, block, notHex, lineAnswer, lineWritten}
+use Rattle.bytes.specs.Bytes.{indexOf}
+use Rattle.hex_text.specs.declared.HexLine.{HexLine}
+use Rattle.hex_text.specs.declared.HexLine.the-variants.{NoRoom}
+use Rattle.hex_text.specs.Hex.{Line, block, notHex, hexLine, lineFeed, lineFrom, lineEnd, lineAnswer, lineWritten}
+use Rattle.hex_text.proofs.Laws.{room-enough}
+use Rattle.cdi_replay.specs.Answered.{blockMax, lineRead, ReadWithin}
+use Rattle.cdi_replay.proofs.Lines.{line-within}
 
--- a block of n bytes fits, and stands at the buffer's front
-pub block-read : (line : Line) (buffer : List ℕ) (n : ℕ) → lineAnswer line (length buffer) ≡ Block n
-    → (n ≤ length buffer) × (line ≡ block (take n (lineWritten line buffer)))
-block-read notHex buffer n e = absurd (let never : _≡_ {A = ℕ} 0 1 = cc in omega arith)
-block-read (block bytes) buffer n e =
+held : (line : Line) (buffer : List ℕ) → (lineAnswer line (length buffer) ≡ NoRoom → ⊥)
+    → (lineRead (lineAnswer line (length buffer)) (lineWritten line buffer) ≡ line) × ReadWithin (lineAnswer line (length buffer)) (length buffer)
+held notHex buffer fits = (refl, tt)
+held (block bytes) buffer fits =
     by-cases (leb (length bytes) (length buffer))
-    (λ t.
-    let answer : Block (length bytes) ≡ Block n = simp t at e in
-    let count : length bytes ≡ n = cc in
-    let room = leb-true (length bytes) (length buffer) t in
-    (omega arith, simp t (ap block (sym (written-front buffer bytes) ∙ ap (λ (k : ℕ). take k (written buffer bytes)) count))))
-    (λ f. let answer : NoRoom ≡ Block n = simp f at e in absurd (let never : _≡_ {A = ℕ} 0 1 = cc in omega arith))
+    (λ t. rw t (ap block (written-front buffer bytes), leb-true (length bytes) (length buffer) t))
+    (λ f. absurd (fits (rw f)))
 
--- a line that is answered as not hex is not hex
-pub not-hex-read : (line : Line) (room : ℕ) → lineAnswer line room ≡ NotHex → line ≡ notHex
-not-hex-read notHex room e = refl
-not-hex-read (block bytes) room e =
-    by-cases (leb (length bytes) room)
-    (λ t. let answer : Block (length bytes) ≡ NotHex = simp t at e in absurd (let never : _≡_ {A = ℕ} 0 1 = cc in omega arith))
-    (λ f. let answer : NoRoom ≡ NotHex = simp f at e in absurd (let never : _≡_ {A = ℕ} 0 1 = cc in omega arith))
+-- the next line of an input was read: where it ends, and that its answer and the buffer tell of it
+pub record NextLine (input buffer : List ℕ) (start end : ℕ) (line : HexLine) : Type 0 where
+  pub found : end ≡ start + indexOf lineFeed (drop start input)
+  pub inside : end ≤ length input
+  pub told : lineRead line buffer ≡ hexLine (take (end - start) (drop start input))
+  pub fits : ReadWithin line (length buffer)
+
+-- a buffer of 200 bytes has room for it
+pub next-read : (input buffer after : List ℕ) (start end : ℕ) (line : HexLine) → start ≤ length input → length buffer ≡ blockMax
+    → length after ≡ length buffer → end ≡ lineEnd start input → line ≡ lineAnswer (hexLine (lineFrom start input)) (length buffer)
+    → after ≡ lineWritten (hexLine (lineFrom start input)) buffer → NextLine input after start end line
+next-read input buffer after start end line within size kept place answer bytes =
+    let chars = lineFrom start input in
+    let here : end ≡ start + indexOf lineFeed (drop start input) = place ∙ rw (le-leb start (length input) within) refl in
+    let width : end - start ≡ indexOf lineFeed (drop start input) = omega arith in
+    let t = held (hexLine chars) buffer (room-enough chars (length buffer) (omega arith)) in
+    record {
+      found = here;
+      inside = omega (arith, line-within (drop start input), length-drop start input);
+      told = rw (width, answer, bytes) (t .0);
+      fits = rw (answer, kept) (t .1);
+    }

@@ -4,9 +4,11 @@ use mathlib.Core.Path.{_≡_}
 use mathlib.Core.Bool.{Bool, false, cond, _||_}
 use mathlib.Core.List.{List, [], _∷_, _++_}
 use lib.Dec.{eqb, leb}
-use lib.ListN.{length}
+use lib.ListN.{length, take}
 use Rattle.logic.specs.Written.{written}
-use Rattle.hex_text.specs.Hex.{Line, hexLine, printed, lineFeed}
+use Rattle.hex_text.specs.Hex.{Line, block, notHex, hexLine, printed, lineFeed}
+use Rattle.hex_text.specs.declared.HexLine.{HexLine}
+use Rattle.hex_text.specs.declared.HexLine.the-variants.{Block, NotHex, NoRoom}
 use Rattle.cdi_command.specs.Command.{validatedResult}
 use Rattle.cdi_state.specs.declared.ModuleState.{ModuleState}
 use Rattle.cdi_store.specs.Store.{stateFor}
@@ -22,6 +24,18 @@ blockMax = 200
 -- the most characters of a line that is printed, with its line feed: three for each byte of the longest response
 abbrev pub printedMax : ℕ
 printedMax = 3 * responseMax
+
+-- the line that a reader's answer tells of, its bytes at the front of a buffer; 200 bytes have room for every block
+abbrev pub lineRead : HexLine → List ℕ → Line
+lineRead (Block n) buffer = block (take n buffer)
+lineRead NotHex buffer = notHex
+lineRead NoRoom buffer = notHex
+
+-- those bytes lie within the buffer
+abbrev pub ReadWithin : HexLine → ℕ → Type 0
+ReadWithin (Block n) size = n ≤ size
+ReadWithin NotHex size = Unit {0}
+ReadWithin NoRoom size = Unit {0}
 
 -- a line printed over the front of a buffer, and how many characters that is
 pub record Prints (text before after : List ℕ) (count : ℕ) : Type 0 where

@@ -8,15 +8,14 @@ ghost use Rattle.logic.specs.Written.{written};
 ghost use Rattle.cdi_command.specs.Command.{validatedResult};
 ghost use Rattle.cdi_state.specs.Valid.{isValid};
 ghost use Rattle.cdi_store.specs.Store.{stateFor};
-ghost use Rattle.hex_text.specs.Hex.{Line, notHexText, hexLine};
+ghost use Rattle.hex_text.specs.Hex.{Line, notHexText};
 ghost use Rattle.cdi_module.specs.Module.{responseMax};
 ghost use Rattle.cdi_replay.specs.Replay.{outcomeText, linesText};
-ghost use Rattle.cdi_replay.specs.Answered.{blockMax, printedMax, Prints, Answers, answered, progress};
+ghost use Rattle.cdi_replay.specs.Answered.{printedMax, lineRead, ReadWithin, Prints, Answers, answered, progress};
 use cdi_command::Validated;
 use cdi_module::RESPONSE_MAX;
 use cdi_state::ModuleState;
 use hex_text::HexLine;
-use hex_text::LINE_FEED;
 use hex_text::LINE_MAX;
 use refusal::NONE;
 use refusal::Outcome;
@@ -86,18 +85,17 @@ fn answer_not_hex(out: &mut [u8]) -> LineAnswer
     }
 }
 
-// Answers one line, given without its line feed, over the front of `out`. `block` is room for the line's bytes.
+// Answers a line that was read, whose bytes stand at the front of `block`, over the front of `out`.
 fn answer_line(
     known: bool,
     state: ModuleState,
-    line: &[u8],
-    block: &mut [u8],
+    read: HexLine,
+    block: &[u8],
     out: &mut [u8],
 ) -> LineAnswer
-    requires { ⌜ (known ≡ true → isValid state ≡ true) × (length (now block) ≡ blockMax) × (printedMax ≤ length (now out)) ⌝ }
-    ensures { λ r. ⌜ Answers state (hexLine (now (line .entry))) (now (out .entry)) (now (out .exit)) r ⌝ }
+    requires { ⌜ (known ≡ true → isValid state ≡ true) × ReadWithin read (length (now block)) × (printedMax ≤ length (now out)) ⌝ }
+    ensures { λ r. ⌜ Answers state (lineRead read (now (block .entry))) (now (out .entry)) (now (out .exit)) r ⌝ }
 {
-    let read = hex_text::read_line(line, block);
     match read {
         HexLine::Block(n) => answer_block(known, state, &block[0..n], out),
         HexLine::NotHex => answer_not_hex(out),
@@ -127,20 +125,17 @@ pub fn replay_lines(state: ModuleState, input: &[u8], output: &mut [u8]) -> Prog
     let mut used = 0;
     let mut start = 0;
     let mut block = [0u8; BLOCK_MAX];
-    let mut end = bytes::scan::find(input, start, input.len(), LINE_FEED);
+    let mut line = hex_text::read_line_at(input, start, &mut block);
+    let mut end = line.end;
     while end < input.len() && output.len() - used >= PRINTED_MAX {
-        let answer = answer_line(
-            known,
-            current,
-            &input[start..end],
-            &mut block,
-            &mut output[used..],
-        );
+        let read = line.line;
+        let answer = answer_line(known, current, read, &block, &mut output[used..]);
         let validated = answer.validated;
         current = stored(current, answer.stores, validated);
         used += answer.printed;
         start = end + 1;
-        end = bytes::scan::find(input, start, input.len(), LINE_FEED);
+        line = hex_text::read_line_at(input, start, &mut block);
+        end = line.end;
     }
     Progress {
         state: current,
