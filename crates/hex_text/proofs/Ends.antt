@@ -6,15 +6,16 @@ use mathlib.Core.Bool.{Bool, true, false, _&&_, and-true, and-false, false≢tru
 use mathlib.Core.List.{List, [], _∷_}
 use native.Mathlib.Omega.{arith}
 use native.Mathlib.Nat.{zero-add, add-zero}
-use borrow.Author.Tests.{eqb-true, eq-eqb, ne-eqb, le-leb, lt-leb}
+use borrow.Author.Tests.{eqb-true, ne-eqb, le-leb, lt-leb}
 use lib.Dec.{eqb}
 use lib.ListN.{length, take, drop, getD, length-drop}
 use lib.Seq.{getD-drop, drop-drop, take-length, length-take-le}
 use Rattle.logic.proofs.Choice.{by-cases}
+use Rattle.logic.proofs.Rest.{one-more, nothing-left}
 use Rattle.bytes.specs.Bytes.{slice, indexOf, indexAfter}
-use Rattle.hex_text.specs.Hex.{block, notHex, isBlock, isDigit, isPair, space, lineFeed, lineMax, pairs, hexLine, spaced, lastPair, lineFrom, lineEnd}
+use Rattle.hex_text.specs.Hex.{block, notHex, isBlock, isDigit, isPair, space, lineFeed, pairs, hexLine, spaced, isLineEnd, lastPair, lineFrom, lineEnd}
 use Rattle.hex_text.proofs.Digits.{pair-digits, digit-place}
-use Rattle.hex_text.proofs.Spaced.{one-more, no-more, too-few-characters, spaced-within}
+use Rattle.hex_text.proofs.Spaced.{spaced-three, spaced-none, too-few-characters, spaced-within}
 use Rattle.hex_text.proofs.Pairs.{block-more, block-other, block-two}
 use Rattle.hex_text.proofs.Lines.{blank, not-pairs}
 
@@ -45,25 +46,29 @@ index-three a b c l t =
     rw (index-more a (b ∷ c ∷ l) (no-line-feed a (d .0)), index-more b (c ∷ l) (no-line-feed b (d .1)), index-more c l (ne-eqb c lineFeed (λ w. omega arith))) refl
 
 -- a line goes on behind the pairs with a space after each
-pub rest-of-line : (l : List ℕ) → indexOf lineFeed l ≡ spaced l + indexOf lineFeed (drop (spaced l) l)
+rest-of-line : (l : List ℕ) → indexOf lineFeed l ≡ spaced l + indexOf lineFeed (drop (spaced l) l)
 rest-of-line [] = rw (too-few-characters [] (omega arith)) (sym (zero-add _))
 rest-of-line (a ∷ []) = rw (too-few-characters (a ∷ []) (omega arith)) (sym (zero-add _))
 rest-of-line (a ∷ b ∷ []) = rw (too-few-characters (a ∷ b ∷ []) (omega arith)) (sym (zero-add _))
 rest-of-line (a ∷ b ∷ c ∷ l) =
     by-cases (isPair a b && eqb c space)
-    (λ t. rw (one-more a b c l t, index-three a b c l t) (omega (arith, rest-of-line l)))
-    (λ f. rw (no-more a b c l f) (sym (zero-add _)))
+    (λ t. rw (spaced-three a b c l t, index-three a b c l t) (omega (arith, rest-of-line l)))
+    (λ f. rw (spaced-none a b c l f) (sym (zero-add _)))
+
+line-ends : (l : List ℕ) → isLineEnd l ≡ true → indexOf lineFeed l ≡ 0
+unfolding indexOf
+line-ends [] e = refl
+line-ends (c ∷ l) e = index-end c l e
 
 -- a last pair is two characters before its line's end
-pub last-ends : (l : List ℕ) → lastPair l ≡ true → (indexOf lineFeed l ≡ 2) × (2 ≤ length l)
+last-ends : (l : List ℕ) → lastPair l ≡ true → (indexOf lineFeed l ≡ 2) × (2 ≤ length l)
 unfolding lastPair indexOf
 last-ends [] e = absurd (false≢true e)
 last-ends (a ∷ []) e = absurd (false≢true e)
-last-ends (a ∷ b ∷ []) e = let d = pair-digits a b e in (index-more a (b ∷ []) (no-line-feed a (d .0)) ∙ ap suc (index-more b [] (no-line-feed b (d .1))), omega arith)
-last-ends (a ∷ b ∷ c ∷ l) e =
-    let p = and-eq-true-iff (isPair a b) (eqb c lineFeed) .0 e in
+last-ends (a ∷ b ∷ l) e =
+    let p = and-eq-true-iff (isPair a b) (isLineEnd l) .0 e in
     let d = pair-digits a b (p .0) in (
-      index-more a (b ∷ c ∷ l) (no-line-feed a (d .0)) ∙ ap suc (index-more b (c ∷ l) (no-line-feed b (d .1)) ∙ ap suc (index-end c l (p .1))),
+      index-more a (b ∷ l) (no-line-feed a (d .0)) ∙ ap suc (index-more b l (no-line-feed b (d .1)) ∙ ap suc (line-ends l (p .1))),
       omega arith,
     )
 
@@ -101,15 +106,15 @@ three-left a b c l other =
     by-cases (eqb c lineFeed) (λ t. rw (index-more a (b ∷ c ∷ l) f, index-more b (c ∷ l) g, index-end c l t, t) (block-two a b ∙ sym (and-true (isPair a b))))
     (λ h. rw (index-more a (b ∷ c ∷ l) f, index-more b (c ∷ l) g, index-more c l h, h) (block-other a b c (take (indexOf lineFeed l) l) other ∙ sym (and-false (isPair a b))))))
 
-pub line-pairs : (l : List ℕ) → isBlock (pairs (take (indexOf lineFeed l) l)) ≡ lastPair (drop (spaced l) l)
+line-pairs : (l : List ℕ) → isBlock (pairs (take (indexOf lineFeed l) l)) ≡ lastPair (drop (spaced l) l)
 unfolding lastPair LinePairs pairs indexOf spaced
 line-pairs [] = refl
 line-pairs (a ∷ []) = rw (too-few-characters (a ∷ []) (omega arith)) (one-left a)
-line-pairs (a ∷ b ∷ []) = rw (too-few-characters (a ∷ b ∷ []) (omega arith)) (two-left a b)
+line-pairs (a ∷ b ∷ []) = rw (too-few-characters (a ∷ b ∷ []) (omega arith)) (two-left a b ∙ sym (and-true (isPair a b)))
 line-pairs (a ∷ b ∷ c ∷ l) =
     by-cases (isPair a b && eqb c space)
-    (λ t. rw (index-three a b c l t, one-more a b c l t) (block-more a b c (take (indexOf lineFeed l) l) t ∙ line-pairs l))
-    (λ f. rw (no-more a b c l f) (three-left a b c l f))
+    (λ t. rw (index-three a b c l t, spaced-three a b c l t) (block-more a b c (take (indexOf lineFeed l) l) t ∙ line-pairs l))
+    (λ f. rw (spaced-none a b c l f) (three-left a b c l f))
 
 last-short : (l : List ℕ) → length l < 2 → lastPair l ≡ false
 unfolding lastPair
@@ -117,37 +122,32 @@ last-short [] h = refl
 last-short (a ∷ []) h = refl
 last-short (a ∷ b ∷ l) h = absurd (omega arith)
 
-last-two : (l : List ℕ) → length l ≡ 2 → lastPair l ≡ isPair (getD l 0 0) (getD l 1 0)
+last-here : (l : List ℕ) → 2 ≤ length l → lastPair l ≡ isPair (getD l 0 0) (getD l 1 0) && isLineEnd (drop 2 l)
 unfolding lastPair
-last-two [] h = absurd (omega arith)
-last-two (a ∷ []) h = absurd (omega arith)
-last-two (a ∷ b ∷ []) h = refl
-last-two (a ∷ b ∷ c ∷ l) h = absurd (omega arith)
+last-here [] h = absurd (omega arith)
+last-here (a ∷ []) h = absurd (omega arith)
+last-here (a ∷ b ∷ l) h = refl
 
-last-more : (l : List ℕ) → 2 < length l → lastPair l ≡ isPair (getD l 0 0) (getD l 1 0) && eqb (getD l 2 0) lineFeed
-unfolding lastPair
-last-more [] h = absurd (omega arith)
-last-more (a ∷ []) h = absurd (omega arith)
-last-more (a ∷ b ∷ []) h = absurd (omega arith)
-last-more (a ∷ b ∷ c ∷ l) h = refl
-
--- whether a last pair stands at a place of a text
+-- whether a line ends, and whether its last pair stands, at a place of a text
 module _ (text : List ℕ) (i : ℕ) where
-  pub short-here : length text - i < 2 → lastPair (drop i text) ≡ false
-  short-here h = last-short (drop i text) (rw length-drop h)
+  pub text-end : i ≡ length text → isLineEnd (drop i text) ≡ true
+  text-end e = rw (nothing-left text i (omega arith)) refl
 
-  pub two-here : length text - i ≡ 2 → lastPair (drop i text) ≡ isPair (getD text i 0) (getD text (i + 1) 0)
-  two-here h = last-two (drop i text) (rw length-drop h) ∙ simp (getD-drop, add-zero)
+  pub before-end : i < length text → isLineEnd (drop i text) ≡ eqb (getD text i 0) lineFeed
+  before-end h = rw (one-more text i 0 h) refl
 
-  module _ (h : 2 < length text - i) where
-    more-here : lastPair (drop i text) ≡ isPair (getD text i 0) (getD text (i + 1) 0) && eqb (getD text (i + 2) 0) lineFeed
-    more-here = last-more (drop i text) (rw length-drop h) ∙ simp (getD-drop, add-zero)
+  pub too-short : length text - i < 2 → lastPair (drop i text) ≡ false
+  too-short h = last-short (drop i text) (rw length-drop h)
 
-    pub line-feed-here : getD text (i + 2) 0 ≡ lineFeed → lastPair (drop i text) ≡ isPair (getD text i 0) (getD text (i + 1) 0)
-    line-feed-here e = more-here ∙ rw (eq-eqb (getD text (i + 2) 0) lineFeed e) (and-true (isPair (getD text i 0) (getD text (i + 1) 0)))
+  module _ (h : 2 ≤ length text - i) where
+    pair-and-end : lastPair (drop i text) ≡ isPair (getD text i 0) (getD text (i + 1) 0) && isLineEnd (drop (i + 2) text)
+    pair-and-end = last-here (drop i text) (rw length-drop h) ∙ simp (getD-drop, drop-drop, add-zero)
 
-    pub other-here : (getD text (i + 2) 0 ≡ lineFeed → ⊥) → lastPair (drop i text) ≡ false
-    other-here n = more-here ∙ rw (ne-eqb (getD text (i + 2) 0) lineFeed n) (and-false (isPair (getD text i 0) (getD text (i + 1) 0)))
+    pub line-goes-on : isLineEnd (drop (i + 2) text) ≡ false → lastPair (drop i text) ≡ false
+    line-goes-on e = pair-and-end ∙ rw e (and-false (isPair (getD text i 0) (getD text (i + 1) 0)))
+
+    pub line-stops : isLineEnd (drop (i + 2) text) ≡ true → lastPair (drop i text) ≡ isPair (getD text i 0) (getD text (i + 1) 0)
+    line-stops e = pair-and-end ∙ rw e (and-true (isPair (getD text i 0) (getD text (i + 1) 0)))
 
 nothing-taken : (n : ℕ) (l : List ℕ) → length l ≡ 0 → length (take n l) ≡ 0
 nothing-taken zero l e = refl

@@ -29,20 +29,20 @@ too-few-characters (a ∷ b ∷ []) h = refl
 too-few-characters (a ∷ b ∷ c ∷ l) h = absurd (omega arith)
 
 module _ (a b c : ℕ) (l : List ℕ) where
-  pub one-more : isPair a b && eqb c space ≡ true → spaced (a ∷ b ∷ c ∷ l) ≡ suc (suc (suc (spaced l)))
+  pub spaced-three : isPair a b && eqb c space ≡ true → spaced (a ∷ b ∷ c ∷ l) ≡ suc (suc (suc (spaced l)))
   unfolding spaced
-  one-more t = simp t (add-three (spaced l))
+  spaced-three t = simp t (add-three (spaced l))
 
-  pub no-more : isPair a b && eqb c space ≡ false → spaced (a ∷ b ∷ c ∷ l) ≡ 0
+  pub spaced-none : isPair a b && eqb c space ≡ false → spaced (a ∷ b ∷ c ∷ l) ≡ 0
   unfolding spaced
-  no-more f = simp f
+  spaced-none f = simp f
 
 pub spaced-within : (l : List ℕ) → spaced l ≤ length l
 spaced-within [] = omega (arith, too-few-characters [] (omega arith))
 spaced-within (a ∷ []) = omega (arith, too-few-characters (a ∷ []) (omega arith))
 spaced-within (a ∷ b ∷ []) = omega (arith, too-few-characters (a ∷ b ∷ []) (omega arith))
 spaced-within (a ∷ b ∷ c ∷ l) =
-    by-cases (isPair a b && eqb c space) (λ t. omega (arith, one-more a b c l t, spaced-within l)) (λ f. omega (arith, no-more a b c l f))
+    by-cases (isPair a b && eqb c space) (λ t. omega (arith, spaced-three a b c l t, spaced-within l)) (λ f. omega (arith, spaced-none a b c l f))
 
 -- the same from a place of a text on
 module _ (text : List ℕ) (i : ℕ) where

@@ -61,12 +61,16 @@ spaced (high ∷ []) = 0
 spaced (high ∷ low ∷ []) = 0
 spaced (high ∷ low ∷ c ∷ rest) = cond (isPair high low && eqb c space) (spaced rest + 3) 0
 
--- whether a pair stands at the front, with a line feed or nothing behind it
+-- a line ends at its line feed, and at the text's end where it has none
+abbrev pub isLineEnd : List ℕ → Bool
+isLineEnd [] = true
+isLineEnd (c ∷ rest) = eqb c lineFeed
+
+-- whether the last pair of a line stands at the front
 unfoldable pub lastPair : List ℕ → Bool
 lastPair [] = false
 lastPair (high ∷ []) = false
-lastPair (high ∷ low ∷ []) = isPair high low
-lastPair (high ∷ low ∷ c ∷ rest) = isPair high low && eqb c lineFeed
+lastPair (high ∷ low ∷ rest) = isPair high low && isLineEnd rest
 
 -- the line that starts at a place of a text, without its line feed; its end is the place of the line feed, or of the text's end
 -- where there is none, and a line that would start past the text's end is empty and ends there

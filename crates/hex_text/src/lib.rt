@@ -7,7 +7,7 @@ ghost use Prim.Native.Nat.{_+_, _*_, _/_, _%_, _<_, _≤_};
 ghost use lib.ListN.{length, drop};
 ghost use lib.Seq.{sets};
 ghost use Rattle.logic.specs.Written.{written};
-ghost use Rattle.hex_text.specs.Hex.{isDigit, isPair, isBlock, pairs, spaced, lastPair, lineFrom, lineEnd, hexLine, lineAnswer, lineWritten, digitOf, allDigits, hexText, refusedText, notHexText, printed, lengthIn, writtenIn};
+ghost use Rattle.hex_text.specs.Hex.{isDigit, isPair, isBlock, pairs, spaced, isLineEnd, lastPair, lineFrom, lineEnd, hexLine, lineAnswer, lineWritten, digitOf, allDigits, hexText, refusedText, notHexText, printed, lengthIn, writtenIn};
 
 // The most characters of a line of hex.
 pub const LINE_MAX: usize = 600;
@@ -133,18 +133,26 @@ pub struct LineAt {
     pub end: usize,
 }
 
-// Whether a pair stands at `at`, with a line feed or the end of the text behind it.
-fn ends_line(text: &[u8], at: usize) -> bool
+// Whether a line ends at `at`: a line feed stands there, or the text has ended.
+fn is_line_end(text: &[u8], at: usize) -> bool
+    requires { ⌜ at ≤ length (now text) ⌝ }
+    ensures { λ r. ⌜ r ≡ isLineEnd (drop at (now (text .entry))) ⌝ }
+{
+    if at == text.len() {
+        return true;
+    }
+    text[at] == LINE_FEED
+}
+
+// Whether the last pair of a line stands at `at`.
+fn is_last_pair(text: &[u8], at: usize) -> bool
     requires { ⌜ at ≤ length (now text) ⌝ }
     ensures { λ r. ⌜ r ≡ lastPair (drop at (now (text .entry))) ⌝ }
 {
     if text.len() - at < 2 {
         return false;
     }
-    if text.len() - at == 2 {
-        return is_pair(text[at], text[at + 1]);
-    }
-    if text[at + 2] != LINE_FEED {
+    if !is_line_end(text, at + 2) {
         return false;
     }
     is_pair(text[at], text[at + 1])
@@ -164,7 +172,7 @@ pub fn read_line_at(text: &[u8], from: usize, block: &mut [u8]) -> LineAt
         };
     }
     let last = skip_pairs(text, from);
-    if ends_line(text, last) {
+    if is_last_pair(text, last) {
         let end = last + 2;
         let line = read_pairs(&text[from..end], block);
         return LineAt { line, end };

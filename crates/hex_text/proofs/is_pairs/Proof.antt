@@ -7,7 +7,7 @@ use borrow.Author.Needs.{needs}
 use borrow.Author.Tests.{eq-eqb, ne-eqb}
 use Rattle.hex_text.specs.Hex.{spaced}
 use Rattle.hex_text.proofs.Spaced.{spaced-within}
-use Rattle.hex_text.proofs.Pairs.{last-pair}
+use Rattle.hex_text.proofs.Pairs.{pair-left}
 use Rattle.hex_text.proofs.is_pairs.Statement.{statement}
 use Rattle.hex_text.proofs.is_pairs.Tie as tie
 
@@ -21,7 +21,7 @@ sub-if1 : tie.Need-sub-if1
 sub-if1 c = omega (arith, place c, spaced-within (c .before .before .args .line .now))
 
 returns : tie.Need-returns
-returns c = sym (last-pair _ ∙ simp (place (c .before), ne-eqb _ _ (c .if1 .taken)))
+returns c = sym (pair-left _ ∙ simp (place (c .before), ne-eqb _ _ (c .if1 .taken)))
 
 shared-slice-read-is-pair : tie.Need-shared-slice-read-is-pair
 shared-slice-read-is-pair c = search needs
@@ -38,7 +38,7 @@ is-pair-requires c κs = search needs
 returns-2 : tie.Need-returns-2
 returns-2 c =
     let test = c .before .before .before in
-    c .is-pair .ensures ∙ sym (last-pair _ ∙ simp (place (test .before), eq-eqb _ _ (test .if1 .left)))
+    c .is-pair .ensures ∙ sym (pair-left _ ∙ simp (place (test .before), eq-eqb _ _ (test .if1 .left)))
 
 pub is-pairs-spec : {M : Type 1} → statement M
 is-pairs-spec =

@@ -1,7 +1,7 @@
 -- `hex_text::read_line_at` meets its contract: behind the pairs with a space after each stands the last pair of a line of pairs, or the
 -- line is empty or not hex and its end is found from there on. Assumes nothing.
 use mathlib.Core.Path.{_≡_, refl, sym, _∙_}
-use mathlib.Core.Bool.{true, false}
+use mathlib.Core.Bool.{true}
 use native.Mathlib.Omega.{arith}
 use lib.ListN.{drop}
 use Rattle.hex_text.specs.Hex.{lastPair}
@@ -23,12 +23,12 @@ skip-pairs-requires c κs = search needs
 skipped : (c : tie.After-skip-pairs) → Skipped (c .before .before .before .before .args .text .now) (c .before .before .before .before .args .from) (c .skip-pairs .result)
 skipped c = record { within = c .before .if1 .left; place = c .skip-pairs .ensures }
 
-ends-line-requires : tie.Need-ends-line-requires
-ends-line-requires c κs = last-within (skipped c)
+is-last-pair-requires : tie.Need-is-last-pair-requires
+is-last-pair-requires c κs = last-within (skipped c)
 
 -- the last pair stands behind the others
 ends-here : (c : tie.Then2) → lastPair (drop (c .before .before .skip-pairs .result) (c .before .before .before .before .before .before .args .text .now)) ≡ true
-ends-here c = sym (c .before .ends-line .ensures) ∙ c .if2 .taken
+ends-here c = sym (c .before .is-last-pair .ensures) ∙ c .if2 .taken
 
 add-end : tie.Need-add-end
 add-end c = omega (arith, pair-within (skipped (c .before .before)) (ends-here c))
@@ -63,7 +63,7 @@ find-requires c κs = (last-within (skipped (c .before .before)), omega arith)
 
 found : (c : tie.After-find) → Found (c .before .before .before .before .before .before .before .args .text .now) (c .before .before .before .skip-pairs .result) (c .find .result)
 found c = record {
-  other = sym (c .before .before .ends-line .ensures) ∙ c .before .if2 .left;
+  other = sym (c .before .before .is-last-pair .ensures) ∙ c .before .if2 .left;
   index = c .find .ensures .0;
   inside = c .find .ensures .1;
 }
@@ -85,7 +85,7 @@ read-line-at-spec =
     (tie.spec
     returns
     skip-pairs-requires
-    ends-line-requires
+    is-last-pair-requires
     add-end
     sub-read-pairs
     part-read-pairs-start
