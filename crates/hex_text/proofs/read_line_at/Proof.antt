@@ -40,7 +40,7 @@ part-read-pairs-start : tie.Need-part-read-pairs-start
 part-read-pairs-start c = search needs
 
 part-read-pairs-end : tie.Need-part-read-pairs-end
-part-read-pairs-end c = pair-within (skipped (c .before .before)) (ends-here c)
+part-read-pairs-end c = omega (arith, pair-within (skipped (c .before .before)) (ends-here c))
 
 read-pairs-requires : tie.Need-read-pairs-requires
 read-pairs-requires c κs =
