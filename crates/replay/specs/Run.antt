@@ -1,5 +1,7 @@
--- What a run of the program prints, as far as a proof can speak of it: the turns are what the contract of `turn` says, one after the
--- other, and no read and no write fails. That what is read and printed comes from and goes to the world, the C library is trusted for.
+-- What a run of the program prints, as far as a proof can speak of it: its turns are what the contract of `turn` says, one after the
+-- other, and no read and no write fails. Four things lie outside it and are tested instead: that the loop in `replay` runs just these
+-- turns, that `print` is handed the text, that `failed` is told only of a read or a write that did fail, and what the C library reads
+-- and writes.
 use Prim.Native.Nat.{ℕ}
 use mathlib.Core.Path.{_≡_}
 use mathlib.Core.Bool.{Bool, true, false, cond}
