@@ -586,6 +586,19 @@ LONGEST_LINE = 600
 HEX_DIGITS = b"0123456789ABCDEF"
 
 
+def line_at(text, start):
+    """The line that starts at a place of a text, without its line feed, and the place of its end.
+
+    A line feed ends it, or the text's end where none follows. A line that would start past the
+    text's end is empty and ends there.
+    """
+    start = min(start, len(text))
+    end = text.find(b"\n", start)
+    if end < 0:
+        end = len(text)
+    return text[start:end], end
+
+
 def parse_line(line):
     """The block of a line that is handed over without its line feed, or None for `not hex`."""
     if len(line) > LONGEST_LINE:

@@ -26,7 +26,10 @@ SEED = 20240001
 # Each function's result and arguments.
 SIGNATURES = {
     "probe_signed_offset": (ctypes.c_int16, (ANALOG_INPUT,)),
-    "probe_read_line": (struct(outcome=BYTE, length=SIZE), (POINTER, SIZE, POINTER, SIZE)),
+    "probe_read_line_at": (
+        struct(answer=BYTE, length=SIZE, end=SIZE),
+        (POINTER, SIZE, SIZE, POINTER, SIZE),
+    ),
     "probe_write_block": (SIZE, (POINTER, SIZE, POINTER, SIZE)),
     "probe_write_refused": (SIZE, (BYTE, POINTER, SIZE)),
     "probe_write_not_hex": (SIZE, (POINTER, SIZE)),
@@ -61,19 +64,23 @@ class Comparison(Calls):
         expected = int.from_bytes(row[3:], "big", signed=True)
         return self.called("probe_signed_offset", expected, came, row=row)
 
-    def read_line(self, line, buffer):
+    def read_line_at(self, text, start, buffer, behind=b""):
+        """The line that starts at a place of a text. What stands behind the text is none of it."""
+        line, end = reference.line_at(text, start)
         block = reference.parse_line(line)
         if block is None:
-            expected = 1, 0, buffer
+            expected = 1, 0, end, buffer
         elif len(block) > len(buffer):
-            expected = 2, 0, buffer
+            expected = 2, 0, end, buffer
         else:
-            expected = 0, len(block), block + buffer[len(block) :]
-        result = self.library.probe_read_line(
-            self.input.give(line), len(line), self.output.give(buffer), len(buffer)
+            expected = 0, len(block), end, block + buffer[len(block) :]
+        given = self.input.give(text + behind)
+        result = self.library.probe_read_line_at(
+            given, len(text), start, self.output.give(buffer), len(buffer)
         )
-        came = result.outcome, result.length, self.output.content()
-        return self.called("probe_read_line", expected, came, line=line, buffer=buffer)
+        came = result.answer, result.length, result.end, self.output.content()
+        inputs = {"text": text, "start": start, "buffer": buffer, "behind": behind}
+        return self.called("probe_read_line_at", expected, came, **inputs)
 
     def written(self, function, arguments, text, out, **inputs):
         """A line that is printed: over the front of the buffer, or not at all for want of room."""
@@ -164,8 +171,9 @@ def check_example_lines(compare, rng):
     """The paper's example lines: read as the bytes they show, and printed as they stand."""
     for text in BLOCK_EXAMPLES + PRINTED_EXAMPLES:
         line, block = text.encode("ascii"), bytes.fromhex(text)
-        outcome, length, buffer = compare.read_line(line, rng.randbytes(40))
-        compare.same("a line read", (0, block), (outcome, buffer[:length]), line=line)
+        answer, length, end, buffer = compare.read_line_at(line, 0, rng.randbytes(40))
+        came = answer, buffer[:length], end
+        compare.same("a line read", (0, block, len(line)), came, line=line)
         length, out = compare.write_block(block, rng.randbytes(120))
         compare.same("a line printed", line + b"\n", out[:length], block=block)
     for refusal, text in REFUSED_EXAMPLES:
@@ -211,7 +219,7 @@ def check_lines_of_blocks(compare, rng):
     """Random blocks of 0 to 205 bytes as lines, with a buffer too short, right and longer."""
     for size in range(206):
         for room in {0, max(size - 1, 0), size, size + 1, 200, 210}:
-            compare.read_line(line_of(rng.randbytes(size)), rng.randbytes(room))
+            compare.read_line_at(line_of(rng.randbytes(size)), 0, rng.randbytes(room))
 
 
 def check_line_buffers(compare, rng):
@@ -219,7 +227,7 @@ def check_line_buffers(compare, rng):
     lines = [line_of(rng.randbytes(size)) for size in (0, 1, 2, 22, 39, 40, 41, 199, 200, 201)]
     lines += [line + wrong for line in lines for wrong in (b" ", b"0", b" 0", b" 0g", b"\r")]
     for line, size in itertools.product(lines, (*range(41), 199, 200, 201)):
-        compare.read_line(line, rng.randbytes(size))
+        compare.read_line_at(line, 0, rng.randbytes(size))
 
 
 def check_long_lines(compare, rng):
@@ -228,9 +236,9 @@ def check_long_lines(compare, rng):
     for size in (*range(590, 611), 2**8, 2**16):
         for line in (text[:size], text[:599].ljust(size), b" " * size, b"A" * size):
             for room in (199, 200, 201, 300):
-                compare.read_line(line, rng.randbytes(room))
+                compare.read_line_at(line, 0, rng.randbytes(room))
     for size in range(2**16, 2**16 + 600):
-        compare.read_line(long_text[:size], rng.randbytes(200))
+        compare.read_line_at(long_text[:size], 0, rng.randbytes(200))
 
 
 def check_changed_lines(compare, rng):
@@ -239,18 +247,84 @@ def check_changed_lines(compare, rng):
     good = b"80 55 8B 0F 9A"
     for place in range(len(good) + 1):
         before, here, after = good[:place], good[place : place + 1], good[place + 1 :]
-        compare.read_line(before + after, rng.randbytes(6))
-        compare.read_line(before + here + here + after, rng.randbytes(6))
+        compare.read_line_at(before + after, 0, rng.randbytes(6))
+        compare.read_line_at(before + here + here + after, 0, rng.randbytes(6))
         for byte in range(256):
-            compare.read_line(before + bytes([byte]) + after, rng.randbytes(6))
+            compare.read_line_at(before + bytes([byte]) + after, 0, rng.randbytes(6))
         for byte in b" 0Fa\r\n\t\x00":
-            compare.read_line(before + bytes([byte]) + here + after, rng.randbytes(6))
+            compare.read_line_at(before + bytes([byte]) + here + after, 0, rng.randbytes(6))
     for size in range(7):
         for letters in itertools.product(b"0A f", repeat=size):
-            compare.read_line(bytes(letters), rng.randbytes(3))
+            compare.read_line_at(bytes(letters), 0, rng.randbytes(3))
     for _ in range(5000):
         letters = rng.choices(b"0123456789ABCDEF    ag\r", k=rng.randrange(20))
-        compare.read_line(bytes(letters), rng.randbytes(rng.randrange(9)))
+        compare.read_line_at(bytes(letters), 0, rng.randbytes(rng.randrange(9)))
+
+
+# Lines of which texts are made: blocks, and lines that are wrong at one place, mostly at the end.
+TEXT_LINES = (
+    b"",
+    b"8",
+    b"80",
+    b"80 ",
+    b"80 5",
+    b"80 55 0F",
+    b"80 55 0F ",
+    b"80 55\r",
+    b"\r",
+    b" ",
+    b" 80",
+    b"80  55",
+    b"80\r55",
+    b"80 5f 0F",
+    b"80 55 0F A",
+    b"8055",
+)
+
+FAR_PLACES = (2**8, 2**16, 2**31, 2**32, 2**63, 2**64 - 1)
+
+
+def check_lines_of_texts(compare, rng):
+    """Texts of two lines, whose last one has a line feed or lacks it, read from every place: from
+    a line's start, from within it, from its line feed, from the text's end and from past it."""
+    for first, second in itertools.product(TEXT_LINES, repeat=2):
+        for last in (b"", b"\n", b"\r\n", b" \n", b"\n\n"):
+            text = first + b"\n" + second + last
+            for start in (*range(len(text) + 4), *FAR_PLACES):
+                compare.read_line_at(text, start, rng.randbytes(rng.choice((0, 1, 2, 3, 8))))
+
+
+def check_short_texts(compare, rng):
+    """Every short text over a few characters from every place; what would go on with a line stands
+    behind some of them."""
+    for size in range(7):
+        for letters in itertools.product(b"A \n\r", repeat=size):
+            text = bytes(letters)
+            for start in range(size + 2):
+                behind = rng.choice((b"", b"A", b"AA", b" AA", b"\n", b"A\n"))
+                compare.read_line_at(text, start, rng.randbytes(rng.randrange(4)), behind)
+
+
+def check_cut_texts(compare, rng):
+    """Texts that end anywhere in a line, with the rest of it behind them."""
+    long_line, short_line = line_of(rng.randbytes(20)), line_of(rng.randbytes(3))
+    whole = b"\n80 55 0F\n" + long_line + b"\r\n" + short_line + b" \n"
+    for size in range(len(whole) + 1):
+        for start in range(len(whole) + 2):
+            compare.read_line_at(whole[:size], start, rng.randbytes(21), whole[size:])
+
+
+def check_long_lines_of_texts(compare, rng):
+    """Lines about the limit within a text: their characters are counted from their place on, to
+    their line feed or to the text's end."""
+    pairs = line_of(rng.randbytes(250))
+    for front, size in itertools.product((b"", b"\n", b"80\n", pairs + b"\n"), range(590, 611)):
+        for line in (pairs[:size], pairs[:599].ljust(size), b"A" * size):
+            for last in (b"", b"\n", b"\n55", b"\r\n"):
+                for skip in (0, 1, 2, 3, 6, 9):
+                    room = rng.choice((0, 1, 196, 197, 198, 199, 200, 201, 204))
+                    start = len(front) + skip
+                    compare.read_line_at(front + line + last, start, rng.randbytes(room))
 
 
 def check_written_blocks(compare, rng):
@@ -273,7 +347,7 @@ def check_written_words(compare, rng):
             compare.write_refused(refusal, rng.randbytes(room))
 
 
-# ---- Logs in a buffer ------------------------------------------------------------------------
+# ---- Logs ------------------------------------------------------------------------------------
 
 
 def log_line(rng):
@@ -297,6 +371,20 @@ def log_of(rng, count):
     """A log of so many lines; the last one has its line feed, or lacks it, or is cut."""
     log = b"".join(log_line(rng) + b"\n" for _ in range(count))
     return rng.choice((log, log, log[:-1], log[: rng.randrange(len(log) + 1)]))
+
+
+def check_lines_of_logs(compare, rng):
+    """Logs read line by line, each from behind the last one's line feed, and from any place."""
+    for count in (0, 1, 2, 7, 40, 300):
+        log = log_of(rng, count)
+        start, lines = 0, 0
+        while start <= len(log):
+            _, _, end, _ = compare.read_line_at(log, start, rng.randbytes(rng.choice((9, 200))))
+            start, lines = end + 1, lines + 1
+        compare.same("the lines of a log", log.count(b"\n") + 1, lines, log=log)
+        for _ in range(300):
+            start, room = rng.randrange(len(log) + 3), rng.randrange(210)
+            compare.read_line_at(log, start, rng.randbytes(room))
 
 
 def check_log_rooms(compare, rng):
@@ -343,6 +431,11 @@ CHECKS = (
     ("lines by buffer size", check_line_buffers),
     ("long lines", check_long_lines),
     ("changed lines", check_changed_lines),
+    ("lines of texts", check_lines_of_texts),
+    ("short texts", check_short_texts),
+    ("cut texts", check_cut_texts),
+    ("long lines of texts", check_long_lines_of_texts),
+    ("lines of logs", check_lines_of_logs),
     ("printed blocks", check_written_blocks),
     ("printed words", check_written_words),
     ("logs by buffer size", check_log_rooms),

@@ -1,6 +1,6 @@
 -- What holds of every block that is read, and of every block that is written and read again.
 -- Assumes nothing.
-use Prim.Native.Nat.{ℕ, zero, suc, _/_, _%_, _<_, _≤_}
+use Prim.Native.Nat.{ℕ, suc, _/_, _%_, _<_, _≤_}
 use mathlib.Core.Path.{_≡_, refl, ap, _∙_}
 use mathlib.Core.Bool.{true, false≢true}
 use mathlib.Core.List.{List, [], _∷_}
@@ -13,8 +13,8 @@ use Rattle.logic.proofs.Bytes.{Bytes}
 use Rattle.logic.proofs.Choice.{by-cases}
 use Rattle.hex_text.specs.declared.HexLine.the-variants.{Block, NoRoom}
 use Rattle.hex_text.specs.Hex.{Line, block, notHex, isBlock, isPair, pairValue, pairs, hexLine, lineMax, lineFeed, lineAnswer, digitOf, hexText}
-use Rattle.hex_text.proofs.Digits.{digit-back, pair-small}
-use Rattle.hex_text.proofs.Pairs.{Decodes, last, more, decodes, decodes-length, bytesOf}
+use Rattle.hex_text.proofs.Digits.{digit-back}
+use Rattle.hex_text.proofs.Pairs.{Decodes, decodes, decodes-length, bytesOf}
 use Rattle.hex_text.proofs.Lines.{blank, not-blank}
 use Rattle.hex_text.proofs.Text.{hexText-length}
 
@@ -42,17 +42,6 @@ fits-any notHex room fits e = let never : _≡_ {A = ℕ} 0 1 = cc in omega arit
 -- so 200 bytes of room are always enough
 pub room-enough : (line : List ℕ) (room : ℕ) → 200 ≤ room → lineAnswer (hexLine line) room ≡ NoRoom → ⊥
 room-enough line room h = fits-any (hexLine line) room (λ bs e. omega (arith, block-length line bs e))
-
-decodes-bytes : {line bs : List ℕ} → Decodes line bs → Bytes bs
-decodes-bytes (last {a} {b} p) zero = pair-small a b p
-decodes-bytes (last p) (suc i) = omega arith
-decodes-bytes (more {a} {b} p d) zero = pair-small a b p
-decodes-bytes (more p d) (suc i) = decodes-bytes d i
-
--- each byte of a block that is read is below 256
-pub block-bytes : (line bs : List ℕ) → hexLine line ≡ block bs → Bytes bs
-block-bytes line bs e i =
-    ⊎-elim (λ (none : bs ≡ []). rw none (omega arith)) (λ (w : (length line ≤ lineMax) × Decodes line bs). decodes-bytes (w .1) i) (block-cases line bs e)
 
 pair-back : (b : ℕ) → b < 256 → (isPair (digitOf (b / 16)) (digitOf (b % 16)) ≡ true) × (pairValue (digitOf (b / 16)) (digitOf (b % 16)) ≡ b)
 pair-back b h =

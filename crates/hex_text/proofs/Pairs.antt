@@ -1,19 +1,16 @@
--- Lines of pairs: the test from a place on, that each byte is the value of its pair, and how many bytes there are.
+-- Lines of pairs: which lines they are, that each byte is the value of its pair, and how many bytes there are.
 -- Assumes nothing.
 use Prim.Native.Nat.{ℕ, zero, suc, _+_, _-_, _*_, _<_, _≤_}
 use mathlib.Core.Path.{_≡_, refl, sym, ap, _∙_}
 use mathlib.Core.Bool.{Bool, true, false, cond, _&&_, false≢true, and-true, and-eq-true-iff}
 use mathlib.Core.List.{List, [], _∷_}
 use native.Mathlib.Omega.{arith}
-use native.Mathlib.Numerals.{add-one}
-use borrow.Author.Tests.{le-leb, eqb-true, ne-eqb}
+use borrow.Author.Tests.{le-leb, eqb-true}
 use lib.Dec.{eqb}
 use lib.ListN.{length, getD}
 use lib.Seq.{sets}
 use Rattle.logic.proofs.Written.{stores}
-use Rattle.logic.proofs.Choice.{by-cases}
-use Rattle.hex_text.specs.Hex.{Line, block, notHex, isBlock, isPair, pairValue, prepend, space, pairs, spaced, lineWritten}
-use Rattle.hex_text.proofs.Spaced.{spaced-three, spaced-none}
+use Rattle.hex_text.specs.Hex.{Line, block, notHex, isBlock, isPair, pairValue, prepend, space, pairs, lineWritten}
 use Rattle.hex_text.proofs.Digits.{allValues, pair-digits, pair-small, digit-place, values-right}
 
 prepend-block : (b : ℕ) (r : Line) → isBlock (prepend b r) ≡ isBlock r
@@ -36,25 +33,6 @@ module _ (a b c : ℕ) (l : List ℕ) where
 pub block-two : (a b : ℕ) → isBlock (pairs (a ∷ b ∷ [])) ≡ isPair a b
 unfolding pairs
 block-two a b = simp (cond-block, and-true)
-
--- a line is pairs where two characters are left behind the pairs with a space after each, and they are a pair
-abbrev pub PairLeft : List ℕ → Type 0
-PairLeft l = isBlock (pairs l) ≡ eqb (length l - spaced l) 2 && isPair (getD l (spaced l) 0) (getD l (spaced l + 1) 0)
-
-pair-left-more : (a b c : ℕ) (l : List ℕ) → PairLeft l → PairLeft (a ∷ b ∷ c ∷ l)
-pair-left-more a b c l e =
-    by-cases (isPair a b && eqb c space)
-    (λ t.
-    let left : length (a ∷ b ∷ c ∷ l) - suc (suc (suc (spaced l))) ≡ length l - spaced l = omega arith in
-    rw (block-more a b c l t, spaced-three a b c l t, left) (simp add-one (simp add-one at e)))
-    (λ f. rw (block-other a b c l f, spaced-none a b c l f) (simp (ne-eqb (length (a ∷ b ∷ c ∷ l) - 0) 2 (λ w. omega arith))))
-
-pub pair-left : (l : List ℕ) → PairLeft l
-unfolding pairs spaced
-pair-left [] = refl
-pair-left (a ∷ []) = refl
-pair-left (a ∷ b ∷ []) = block-two a b
-pair-left (a ∷ b ∷ c ∷ l) = pair-left-more a b c l (pair-left l)
 
 -- a line of pairs, and its bytes
 pub data Decodes : List ℕ → List ℕ → Type 0 where

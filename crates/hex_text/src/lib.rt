@@ -62,17 +62,6 @@ fn skip_pairs(text: &[u8], from: usize) -> usize
     i
 }
 
-// Whether a line is one pair or more, parted by one space.
-fn is_pairs(line: &[u8]) -> bool
-    ensures { λ r. ⌜ r ≡ isBlock (pairs (now (line .entry))) ⌝ }
-{
-    let last = skip_pairs(line, 0);
-    if line.len() - last != 2 {
-        return false;
-    }
-    is_pair(line[last], line[last + 1])
-}
-
 const ZERO: usize = b'0' as usize;
 
 // The value of each digit, from `0` on. The characters between `9` and `A` are no digits.
@@ -113,20 +102,6 @@ fn read_pairs(line: &[u8], block: &mut [u8]) -> HexLine
     HexLine::Block(count)
 }
 
-// Reads a line, without its line feed, into the front of `block`. A line that is no block, or whose block does not fit,
-// leaves the buffer as it was: nothing is written before the whole line is known to be good.
-pub fn read_line(line: &[u8], block: &mut [u8]) -> HexLine
-    ensures { λ r. ⌜ (r ≡ lineAnswer (hexLine (now (line .entry))) (length (now (block .entry)))) × (now (block .exit) ≡ lineWritten (hexLine (now (line .entry))) (now (block .entry))) ⌝ }
-{
-    if line.len() == 0 {
-        return HexLine::Block(0);
-    }
-    if !is_pairs(line) {
-        return HexLine::NotHex;
-    }
-    read_pairs(line, block)
-}
-
 // A line of a text: what it is, and the place of its line feed, or of the text's end where it has none.
 pub struct LineAt {
     pub line: HexLine,
@@ -158,8 +133,9 @@ fn is_last_pair(text: &[u8], at: usize) -> bool
     is_pair(text[at], text[at + 1])
 }
 
-// Reads the line of `text` that starts at `from` into the front of `block`, as `read_line` does, and finds where it ends. A line
-// of pairs is passed once. Where `from` is past the end of the text, the line is empty and ends there.
+// Reads the line of `text` that starts at `from` into the front of `block`, and finds where it ends. A line that is no block, or
+// whose block does not fit, leaves the buffer as it was: nothing is written before the whole line is known to be good. Where
+// `from` is past the end of the text, the line is empty and ends at the text's end.
 pub fn read_line_at(text: &[u8], from: usize, block: &mut [u8]) -> LineAt
     ensures { λ r. ⌜ (r .end ≡ lineEnd from (now (text .entry)))
         × (r .line ≡ lineAnswer (hexLine (lineFrom from (now (text .entry)))) (length (now (block .entry))))

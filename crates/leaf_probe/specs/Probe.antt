@@ -14,8 +14,8 @@ notHexAnswer = 1
 abbrev pub noRoomAnswer : ℕ
 noRoomAnswer = 2
 
--- the answer's number, and the block's length where there is one
-abbrev pub lineProbe : HexLine → LineProbe
-lineProbe (Block n) = record { answer = blockAnswer; length = n }
-lineProbe NotHex = record { answer = notHexAnswer; length = 0 }
-lineProbe NoRoom = record { answer = noRoomAnswer; length = 0 }
+-- the answer's number, the block's length where there is one, and the line's end
+abbrev pub lineProbe : HexLine → ℕ → LineProbe
+lineProbe (Block n) end = record { answer = blockAnswer; length = n; end = end }
+lineProbe NotHex end = record { answer = notHexAnswer; length = 0; end = end }
+lineProbe NoRoom end = record { answer = noRoomAnswer; length = 0; end = end }

@@ -3,7 +3,7 @@
 ghost use mathlib.Core.Path.{_≡_};
 ghost use lib.ListN.{length};
 ghost use Rattle.cdi_state.specs.State.{inputOffset};
-ghost use Rattle.hex_text.specs.Hex.{hexLine, lineAnswer, lineWritten, hexText, refusedText, notHexText, printed, lengthIn, writtenIn};
+ghost use Rattle.hex_text.specs.Hex.{lineFrom, lineEnd, hexLine, lineAnswer, lineWritten, hexText, refusedText, notHexText, printed, lengthIn, writtenIn};
 ghost use Rattle.logic.specs.Written.{written};
 ghost use Rattle.cdi_replay.specs.Replay.{linesText};
 ghost use Rattle.cdi_replay.specs.Answered.{answered, progress};
@@ -20,11 +20,12 @@ const NOT_HEX: u8 = 1;
 // ... a block that the buffer is too small for.
 const NO_ROOM: u8 = 2;
 
-// The answer to a line, and the block's length, 0 where there is no block.
+// The answer to a line, the block's length, 0 where there is no block, and the place where the line ends.
 #[repr(C)]
 pub struct LineProbe {
     pub answer: u8,
     pub length: usize,
+    pub end: usize,
 }
 
 // The offset of an input as a signed number.
@@ -35,23 +36,29 @@ pub extern "C" fn probe_signed_offset(input: AnalogInput) -> i16
     input.signed_offset()
 }
 
-// Reads a line of hex into the front of `block`.
+// Reads the line of `text` that starts at `from` into the front of `block`.
 #[no_mangle]
-pub extern "C" fn probe_read_line(line: &[u8], block: &mut [u8]) -> LineProbe
-    ensures { λ r. ⌜ (r ≡ lineProbe (lineAnswer (hexLine (now (line .entry))) (length (now (block .entry))))) × (now (block .exit) ≡ lineWritten (hexLine (now (line .entry))) (now (block .entry))) ⌝ }
+pub extern "C" fn probe_read_line_at(text: &[u8], from: usize, block: &mut [u8]) -> LineProbe
+    ensures { λ r. ⌜ (r ≡ lineProbe (lineAnswer (hexLine (lineFrom from (now (text .entry)))) (length (now (block .entry)))) (lineEnd from (now (text .entry))))
+        × (now (block .exit) ≡ lineWritten (hexLine (lineFrom from (now (text .entry)))) (now (block .entry))) ⌝ }
 {
-    match hex_text::read_line(line, block) {
+    let read = hex_text::read_line_at(text, from, block);
+    let line = read.line;
+    match line {
         HexLine::Block(length) => LineProbe {
             answer: BLOCK,
             length,
+            end: read.end,
         },
         HexLine::NotHex => LineProbe {
             answer: NOT_HEX,
             length: 0,
+            end: read.end,
         },
         HexLine::NoRoom => LineProbe {
             answer: NO_ROOM,
             length: 0,
+            end: read.end,
         },
     }
 }

@@ -1,10 +1,12 @@
 -- `hex_text::read_line_at` meets its contract: behind the pairs with a space after each stands the last pair of a line of pairs, or the
 -- line is empty or not hex and its end is found from there on. Assumes nothing.
-use mathlib.Core.Path.{_≡_, refl, sym, _∙_}
+use Prim.Native.Nat.{ℕ}
+use mathlib.Core.Path.{_≡_, refl, sym, ap, _∙_}
 use mathlib.Core.Bool.{true}
+use mathlib.Core.List.{List}
 use native.Mathlib.Omega.{arith}
 use lib.ListN.{drop}
-use Rattle.hex_text.specs.Hex.{lastPair}
+use Rattle.hex_text.specs.Hex.{isBlock, pairs, lastPair}
 use Rattle.hex_text.proofs.Lines.{empty-fits}
 use Rattle.hex_text.proofs.Ends.{Skipped, Found, past-end, last-within, pair-within, pair-end, pair-line, pair-pairs, found-end, found-empty, found-other}
 use borrow.Author.Needs.{needs}
@@ -46,7 +48,7 @@ read-pairs-requires : tie.Need-read-pairs-requires
 read-pairs-requires c κs =
     let test = c .before .before in
     let skip = skipped (test .before .before) in
-    rw (pair-line skip (ends-here test)) (pair-pairs skip (ends-here test))
+    ap (λ (line : List ℕ). isBlock (pairs line)) (pair-line skip (ends-here test)) ∙ pair-pairs skip (ends-here test)
 
 same-length : tie.Need-same-length
 same-length c = search needs
