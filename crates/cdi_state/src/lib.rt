@@ -213,7 +213,7 @@ fn is_valid_slot(slot: Slot) -> bool
     )
 }
 
-// No slot ends the loop early: without a branch for each, the loop costs half as much.
+// No slot ends the loop early: without a branch for each, the loop is cheaper.
 fn are_valid_slots(slots: [Slot; 40]) -> bool
     ensures { λ r. ⌜ r ≡ validSlots slots ⌝ }
 {
