@@ -2,7 +2,7 @@
 -- Assumes nothing.
 use Prim.Native.Nat.{ℕ, _≤_}
 use mathlib.Core.Path.{_≡_, subst, ap}
-use mathlib.Core.Bool.{Bool, false, _||_}
+use mathlib.Core.Bool.{false}
 use mathlib.Core.List.{List, _∷_}
 use lib.Dec.{eqb}
 use lib.ListN.{length}
@@ -11,10 +11,7 @@ use Rattle.cdi_command.specs.declared.Command.{Command}
 use Rattle.cdi_command.specs.Command.{read, readNv}
 use Rattle.cdi_command.specs.Payload.{commandCode, commandPayload, payloadMax, responsePayload, ackResponse, noError}
 use Rattle.cdi_command.proofs.Accepted.{payload-bounds}
-
--- the command is Read or Read NV
-abbrev pub isRead : Command → Bool
-isRead c = eqb (commandCode c) read || eqb (commandCode c) readNv
+use Rattle.cdi_store.specs.Store.{isRead}
 
 module _ (c : Command) (p : List ℕ) (is : commandPayload c ≡ p) where
   pub echoed : (v : List ℕ) → isRead c ≡ false → responsePayload c v ≡ ackResponse ∷ noError ∷ p

@@ -7,11 +7,11 @@ use mathlib.Core.List.{List}
 use Rattle.logic.proofs.Choice.{by-cases}
 use Rattle.refusal.specs.Refusal.{Result, accepted, refused}
 use Rattle.cdi_command.specs.declared.Command.{Command}
-use Rattle.cdi_command.specs.declared.Command.the-variants.{Read, ReadIndexed, ReadNv, ReadNvIndexed, Write, WriteIndexed, Program, ProgramIndexed, SetDefault, EraseAll}
 use Rattle.cdi_command.specs.Command.{validatedResult}
 use Rattle.cdi_state.specs.declared.ModuleState.{ModuleState}
 use Rattle.cdi_state.specs.Valid.{isValid}
 use Rattle.cdi_store.specs.Store.{stateFor}
+use Rattle.cdi_store.proofs.Tags.{nothing-stored as kept}
 use Rattle.cdi_model.specs.Step.{command, responded}
 use Rattle.cdi_module.specs.declared.Decided.{Decided}
 use Rattle.cdi_module.specs.Module.{Decision, refuse, execute, executePowerUp, decided, decideIf, decide, stateBy, storesBy, refusedAs, Responds, step, blockResult, resultOf}
@@ -28,16 +28,7 @@ stored-by s (refused n) = refl
 -- a decision that stores nothing leaves the state
 pub nothing-stored : (s : ModuleState) (d : Decision) → storesBy d ≡ false → stateBy s d ≡ s
 nothing-stored s (refuse n) e = refl
-nothing-stored s (execute (Read x)) e = refl
-nothing-stored s (execute (ReadIndexed x i)) e = refl
-nothing-stored s (execute (ReadNv x)) e = refl
-nothing-stored s (execute (ReadNvIndexed x i)) e = refl
-nothing-stored s (execute (Write x v)) e = absurd (true≢false e)
-nothing-stored s (execute (WriteIndexed x i v)) e = absurd (true≢false e)
-nothing-stored s (execute (Program x v)) e = absurd (true≢false e)
-nothing-stored s (execute (ProgramIndexed x i v)) e = absurd (true≢false e)
-nothing-stored s (execute SetDefault) e = absurd (true≢false e)
-nothing-stored s (execute EraseAll) e = absurd (true≢false e)
+nothing-stored s (execute c) e = kept s c e
 nothing-stored s executePowerUp e = absurd (true≢false e)
 
 -- what is told of a block, once what is known of the state is true, by the step that it is

@@ -1,7 +1,8 @@
--- A name as it is shown, and the row of an input.
+-- A name as it is shown, the row of an input, and what is shown where nothing is read.
 -- Assumes nothing.
 use Prim.Native.Nat.{ℕ, zero, suc, _+_, _-_, _<_, _≤_}
 use mathlib.Core.Path.{_≡_}
+use mathlib.Core.Bool.{false, true≢false}
 use mathlib.Core.List.{List, [], _∷_, _++_, append-nil, append-assoc}
 use native.Mathlib.Numerals.{add-one}
 use native.Mathlib.Omega.{arith}
@@ -9,10 +10,14 @@ use borrow.Author.Tests.{eq-eqb, ne-eqb}
 use lib.ListN.{length, getD, take, drop}
 use lib.Seq.{take-suc, take-length, drop-length}
 use Rattle.logic.proofs.Rest.{one-more}
+use Rattle.cdi_command.specs.declared.Command.{Command}
+use Rattle.cdi_command.specs.declared.Command.the-variants.{Read, ReadIndexed, ReadNv, ReadNvIndexed, Write, WriteIndexed, Program, ProgramIndexed, SetDefault, EraseAll}
 use Rattle.cdi_state.specs.declared.Settings.{Settings}
+use Rattle.cdi_state.specs.declared.ModuleState.{ModuleState}
 use Rattle.cdi_state.specs.State.{noInput, inputAt}
+use Rattle.cdi_store.specs.Store.{isRead}
 use Rattle.cdi_module.specs.declared.value.Shown.{Shown}
-use Rattle.cdi_module.specs.Value.{nameShown, Shows}
+use Rattle.cdi_module.specs.Value.{nameShown, valueRead, valueRoom, Shows}
 
 module _ (l : List ℕ) (i : ℕ) (h : i < length l) where
   one-taken : take (i + 1) l ≡ take i l ++ (getD l i 0 ∷ [])
@@ -41,3 +46,16 @@ input-at t (suc i) h = let e : suc i - 1 ≡ i = omega arith in rw e
 -- a value that fits into some room fits into more
 pub shows-more : {n m : ℕ} {v : List ℕ} {x : Shown} → Shows n v x → n ≤ m → Shows m v x
 shows-more {m = m} h le = record { few = omega (arith, h .few); front = h .front }
+
+-- a command that is no read has no value
+pub none-shown : (s : ModuleState) (c : Command) (r : Shown) → isRead c ≡ false → Shows 0 [] r → Shows (valueRoom c) (valueRead s c) r
+none-shown s (Read x) y e h = absurd (true≢false e)
+none-shown s (ReadIndexed x i) y e h = absurd (true≢false e)
+none-shown s (ReadNv x) y e h = absurd (true≢false e)
+none-shown s (ReadNvIndexed x i) y e h = absurd (true≢false e)
+none-shown s (Write x v) y e h = h
+none-shown s (WriteIndexed x i v) y e h = h
+none-shown s (Program x v) y e h = h
+none-shown s (ProgramIndexed x i v) y e h = h
+none-shown s SetDefault y e h = h
+none-shown s EraseAll y e h = h

@@ -83,12 +83,7 @@ fn put_payload(command: Command, shown: Shown, payload: &[u8], out: &mut [u8]) -
         Command::ReadNvIndexed(item, index) => {
             put_read_row(READ_NV_RESPONSE, item, index, shown, out)
         }
-        Command::Write(_, _) => put_ack(payload, out),
-        Command::WriteIndexed(_, _, _) => put_ack(payload, out),
-        Command::Program(_, _) => put_ack(payload, out),
-        Command::ProgramIndexed(_, _, _) => put_ack(payload, out),
-        Command::SetDefault => put_ack(payload, out),
-        Command::EraseAll => put_ack(payload, out),
+        _ => put_ack(payload, out),
     }
 }
 

@@ -221,11 +221,6 @@ pub(crate) fn read(state: ModuleState, command: Command) -> Shown
         Command::ReadIndexed(item, index) => read_row(state, state.working, item, index),
         Command::ReadNv(item) => read_plain(state, true, item.code),
         Command::ReadNvIndexed(item, index) => read_row(state, state.nv, item, index),
-        Command::Write(_, _) => show(&[]),
-        Command::WriteIndexed(_, _, _) => show(&[]),
-        Command::Program(_, _) => show(&[]),
-        Command::ProgramIndexed(_, _, _) => show(&[]),
-        Command::SetDefault => show(&[]),
-        Command::EraseAll => show(&[]),
+        _ => show(&[]),
     }
 }

@@ -1,7 +1,7 @@
 -- Document 01, "Items": the state after an accepted command, and after a power-up.
 use Prim.Native.Nat.{ℕ, zero, suc}
 use mathlib.Core.List.{List, [], _∷_}
-use mathlib.Core.Bool.{Bool, true, false, cond}
+use mathlib.Core.Bool.{Bool, false, cond, not, _||_}
 use lib.Dec.{eqb}
 use lib.ListN.{getD, set, replicate}
 use Rattle.refusal.specs.Refusal.{Result, accepted, refused}
@@ -11,6 +11,8 @@ use Rattle.cdi_command.specs.declared.Index.{Index}
 use Rattle.cdi_command.specs.declared.Index.the-variants.{Slot as SlotAt, Input as InputAt}
 use Rattle.cdi_command.specs.declared.Command.{Command}
 use Rattle.cdi_command.specs.declared.Command.the-variants.{Read, ReadIndexed, ReadNv, ReadNvIndexed, Write, WriteIndexed, Program, ProgramIndexed, SetDefault, EraseAll}
+use Rattle.cdi_command.specs.Command.{read, readNv}
+use Rattle.cdi_command.specs.Payload.{commandCode}
 use Rattle.cdi_state.specs.declared.AnalogInput.{AnalogInput}
 use Rattle.cdi_state.specs.declared.Slot.{Slot}
 use Rattle.cdi_state.specs.declared.Settings.{Settings}
@@ -172,18 +174,12 @@ stateAfter s (ProgramIndexed x i v) = rowProgrammed s i v
 stateAfter s SetDefault = defaulted s
 stateAfter s EraseAll = erased s
 
--- all commands but the reads store
+-- all commands but Read and Read NV store
+abbrev pub isRead : Command → Bool
+isRead c = eqb (commandCode c) read || eqb (commandCode c) readNv
+
 abbrev pub stores : Command → Bool
-stores (Read x) = false
-stores (ReadIndexed x i) = false
-stores (ReadNv x) = false
-stores (ReadNvIndexed x i) = false
-stores (Write x v) = true
-stores (WriteIndexed x i v) = true
-stores (Program x v) = true
-stores (ProgramIndexed x i v) = true
-stores SetDefault = true
-stores EraseAll = true
+stores c = not (isRead c)
 
 -- a payload that was refused stores nothing
 abbrev pub storesFor : Result Command → Bool

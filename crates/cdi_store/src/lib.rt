@@ -88,10 +88,6 @@ pub fn store(state: ModuleState, validated: Validated) -> ModuleState
     match validated {
         Validated::Refused(_) => {}
         Validated::Accepted(command) => match command {
-            Command::Read(_) => {}
-            Command::ReadIndexed(_, _) => {}
-            Command::ReadNv(_) => {}
-            Command::ReadNvIndexed(_, _) => {}
             Command::Write(item, value) => {
                 let after = with_value(working, Setting::Byte(item.code), value);
                 q.working = after;
@@ -136,6 +132,8 @@ pub fn store(state: ModuleState, validated: Validated) -> ModuleState
             Command::EraseAll => {
                 q.slots = [Slot::EMPTY; 40];
             }
+            // The reads.
+            _ => {}
         },
     }
     q
@@ -148,16 +146,11 @@ pub fn stores(validated: Validated) -> bool
     match validated {
         Validated::Refused(_) => false,
         Validated::Accepted(command) => match command {
-            Command::Read(_) => false,
-            Command::ReadIndexed(_, _) => false,
-            Command::ReadNv(_) => false,
-            Command::ReadNvIndexed(_, _) => false,
-            Command::Write(_, _) => true,
-            Command::WriteIndexed(_, _, _) => true,
-            Command::Program(_, _) => true,
-            Command::ProgramIndexed(_, _, _) => true,
-            Command::SetDefault => true,
-            Command::EraseAll => true,
+            Command::Read(_)
+            | Command::ReadIndexed(_, _)
+            | Command::ReadNv(_)
+            | Command::ReadNvIndexed(_, _) => false,
+            _ => true,
         },
     }
 }

@@ -1,6 +1,7 @@
 -- Each command is stored in the copies that it has, and what is refused or only reads leaves the state.
 -- Assumes nothing.
 use mathlib.Core.Path.{_≡_, sym, ap, _∙_}
+use mathlib.Core.Bool.{not}
 use native.Mathlib.Omega.{arith}
 use borrow.Author.Needs.{needs}
 use borrow.Author.Tests.{eq-eqb, ne-eqb, ltb-true, ltb-false}
@@ -8,6 +9,7 @@ use lib.ListN.{length}
 use lib.Seq.{set-out}
 use Rattle.cdi_state.proofs.Arrays.{unmapped}
 use Rattle.cdi_store.specs.Store.{withSlots, slotFrom}
+use Rattle.cdi_store.proofs.Tags.{is-read, nothing-stored}
 use Rattle.cdi_store.proofs.store.Statement.{statement}
 use Rattle.cdi_store.proofs.store.Tie as tie
 use Rattle.cdi_store.proofs.store.Reads as reads
@@ -22,18 +24,6 @@ enum-told c = search needs
 enum-known-validated : tie.Need-enum-known-validated
 enum-known-validated c = search needs
 
-enum-told-2 : tie.Need-enum-told-2
-enum-told-2 c = search needs
-
-enum-told-3 : tie.Need-enum-told-3
-enum-told-3 c = search needs
-
-enum-told-4 : tie.Need-enum-told-4
-enum-told-4 c = search needs
-
-enum-told-5 : tie.Need-enum-told-5
-enum-told-5 c = search needs
-
 enum-known-command : tie.Need-enum-known-command
 enum-known-command c = search needs
 
@@ -43,8 +33,8 @@ with-value-requires c κs = search needs
 enum-known-command-2 : tie.Need-enum-known-command-2
 enum-known-command-2 c = search needs
 
-enum-told-6 : tie.Need-enum-told-6
-enum-told-6 c = search needs
+enum-told-2 : tie.Need-enum-told-2
+enum-told-2 c = search needs
 
 enum-known-index : tie.Need-enum-known-index
 enum-known-index c = search needs
@@ -93,63 +83,51 @@ with-value-requires-5 c κs = search needs
 with-value-requires-6 : tie.Need-with-value-requires-6
 with-value-requires-6 c κs = search needs
 
-enum-told-7 : tie.Need-enum-told-7
-enum-told-7 c = search needs
+enum-told-3 : tie.Need-enum-told-3
+enum-told-3 c = search needs
 
-enum-told-8 : tie.Need-enum-told-8
-enum-told-8 c = search needs
+enum-told-4 : tie.Need-enum-told-4
+enum-told-4 c = search needs
 
 returns : tie.Need-returns
 returns c = rw (c .enum-told .given .1)
 
 returns-2 : tie.Need-returns-2
-returns-2 c = rw (c .before .before .before .validated .given .1, c .enum-told2 .given .1)
-
-returns-3 : tie.Need-returns-3
-returns-3 c = rw (c .before .before .before .validated .given .1, c .enum-told3 .given .1)
-
-returns-4 : tie.Need-returns-4
-returns-4 c = rw (c .before .before .before .validated .given .1, c .enum-told4 .given .1)
-
-returns-5 : tie.Need-returns-5
-returns-5 c = rw (c .before .before .before .validated .given .1, c .enum-told5 .given .1)
-
-returns-6 : tie.Need-returns-6
-returns-6 c =
+returns-2 c =
     let d = c .before .before in
     rw (d .before .before .before .validated .given .1, d .command .given .1, c .with-value .ensures)
 
-returns-7 : tie.Need-returns-7
-returns-7 c =
+returns-3 : tie.Need-returns-3
+returns-3 c =
     let d = c .before .before .before in
-    rw (d .before .before .before .validated .given .1, d .command2 .given .1, c .enum-told6 .given .1)
+    rw (d .before .before .before .validated .given .1, d .command2 .given .1, c .enum-told2 .given .1)
 
-returns-8 : tie.Need-returns-8
-returns-8 c =
+returns-4 : tie.Need-returns-4
+returns-4 c =
     let i = c .before .before in
     let d = i .before .before .before in
     rw (d .before .before .before .validated .given .1, d .command2 .given .1, i .index .given .1, c .with-value2 .ensures)
 
-returns-9 : tie.Need-returns-9
-returns-9 c =
+returns-5 : tie.Need-returns-5
+returns-5 c =
     let d = c .before .before .before .before in
     rw (d .before .before .before .validated .given .1, d .command3 .given .1) (simp (eq-eqb _ _ (c .before .if1 .taken)))
 
-returns-10 : tie.Need-returns-10
-returns-10 c =
+returns-6 : tie.Need-returns-6
+returns-6 c =
     let t = c .before .before in
     let d = t .before .before .before in
     rw (d .before .before .before .validated .given .1, d .command3 .given .1)
     (simp (ne-eqb _ _ (t .if1 .left), c .before .with-value3 .ensures, c .with-value4 .ensures))
 
-returns-11 : tie.Need-returns-11
-returns-11 c =
+returns-7 : tie.Need-returns-7
+returns-7 c =
     let i = c .before .before .before .before .before in
     let d = i .before .before .before in
     rw (d .before .before .before .validated .given .1, d .command4 .given .1, i .index2 .given .1, c .slot-from .ensures)
 
-returns-12 : tie.Need-returns-12
-returns-12 c =
+returns-8 : tie.Need-returns-8
+returns-8 c =
     let n = c .before in
     let i = n .before .before in
     let d = i .before .before .before in
@@ -159,17 +137,22 @@ returns-12 c =
     rw (v .validated .given .1, d .command4 .given .1, i .index2 .given .1)
     (sym (ap (withSlots (s .args .state)) (set-out (s .args .state .slots) (i .index2 .given .0 .0 .0) (slotFrom _) (omega (arith, past, forty s)))))
 
-returns-13 : tie.Need-returns-13
-returns-13 c =
+returns-9 : tie.Need-returns-9
+returns-9 c =
     let i = c .before .before .before in
     let d = i .before .before .before in
     rw (d .before .before .before .validated .given .1, d .command4 .given .1, i .index3 .given .1, c .before .with-value5 .ensures, c .with-value6 .ensures)
 
-returns-14 : tie.Need-returns-14
-returns-14 c = rw (c .before .before .before .validated .given .1, c .enum-told7 .given .1)
+returns-10 : tie.Need-returns-10
+returns-10 c = rw (c .before .before .before .validated .given .1, c .enum-told3 .given .1)
 
-returns-15 : tie.Need-returns-15
-returns-15 c = rw (c .before .before .before .before .validated .given .1, c .before .enum-told8 .given .1)
+returns-11 : tie.Need-returns-11
+returns-11 c = rw (c .before .before .before .before .validated .given .1, c .before .enum-told4 .given .1)
+
+returns-12 : tie.Need-returns-12
+returns-12 c =
+    let v = c .before .before .validated .given in
+    rw (v .1) (sym (nothing-stored _ (v .0 .0) (ap not (is-read (v .0 .0) (c .match2 .keys7)))))
 
 pub store-spec : {M : Type 1} → statement M
 store-spec =
@@ -177,14 +160,10 @@ store-spec =
     (tie.spec
     enum-told
     enum-known-validated
-    enum-told-2
-    enum-told-3
-    enum-told-4
-    enum-told-5
     enum-known-command
     with-value-requires
     enum-known-command-2
-    enum-told-6
+    enum-told-2
     enum-known-index
     with-value-requires-2
     enum-known-command-3
@@ -200,8 +179,8 @@ store-spec =
     enum-known-index-3
     with-value-requires-5
     with-value-requires-6
-    enum-told-7
-    enum-told-8
+    enum-told-3
+    enum-told-4
     returns
     returns-2
     returns-3
@@ -213,7 +192,4 @@ store-spec =
     returns-9
     returns-10
     returns-11
-    returns-12
-    returns-13
-    returns-14
-    returns-15)
+    returns-12)

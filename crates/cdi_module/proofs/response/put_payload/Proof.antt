@@ -1,13 +1,15 @@
 -- Each command has its form of the response, and the function that writes it.
 -- Assumes nothing.
 use Prim.Native.Nat.{_≤_}
-use mathlib.Core.Path.{_≡_, ap}
+use mathlib.Core.Path.{_≡_}
 use mathlib.Core.Bool.{false}
 use mathlib.Core.List.{_∷_}
 use lib.ListN.{length}
 use Rattle.cdi_command.specs.Payload.{payloadMax, responsePayload, ackResponse, noError}
 use Rattle.cdi_module.specs.Value.{shownBytes}
-use Rattle.cdi_module.proofs.Responses.{isRead, echoed, echo-short}
+use Rattle.cdi_store.specs.Store.{isRead}
+use Rattle.cdi_store.proofs.Tags.{is-other}
+use Rattle.cdi_module.proofs.Responses.{echoed, echo-short}
 use borrow.Author.Needs.{needs}
 use Rattle.cdi_module.proofs.response.put_payload.Statement.{statement}
 use Rattle.cdi_module.proofs.response.put_payload.Tie as tie
@@ -55,41 +57,8 @@ put-read-row-requires-2 c κs =
     let s = d .before .before .before .before in
     (rw (d .command4 .given .1) at (s .pre .1), search needs)
 
-enum-told : tie.Need-enum-told
-enum-told c = search needs
-
 put-ack-requires : tie.Need-put-ack-requires
-put-ack-requires c κs = (short (c .before .before .before .before .before), search needs)
-
-enum-told-2 : tie.Need-enum-told-2
-enum-told-2 c = search needs
-
-put-ack-requires-2 : tie.Need-put-ack-requires-2
-put-ack-requires-2 c κs = (short (c .before .before .before .before .before), search needs)
-
-enum-told-3 : tie.Need-enum-told-3
-enum-told-3 c = search needs
-
-put-ack-requires-3 : tie.Need-put-ack-requires-3
-put-ack-requires-3 c κs = (short (c .before .before .before .before .before), search needs)
-
-enum-told-4 : tie.Need-enum-told-4
-enum-told-4 c = search needs
-
-put-ack-requires-4 : tie.Need-put-ack-requires-4
-put-ack-requires-4 c κs = (short (c .before .before .before .before .before), search needs)
-
-enum-told-5 : tie.Need-enum-told-5
-enum-told-5 c = search needs
-
-put-ack-requires-5 : tie.Need-put-ack-requires-5
-put-ack-requires-5 c κs = (short (c .before .before .before .before .before), search needs)
-
-enum-told-6 : tie.Need-enum-told-6
-enum-told-6 c = search needs
-
-put-ack-requires-6 : tie.Need-put-ack-requires-6
-put-ack-requires-6 c κs = (short (c .before .before .before .before .before), search needs)
+put-ack-requires c κs = (short (c .before .before .before .before), search needs)
 
 same-length : tie.Need-same-length
 same-length c = search needs
@@ -129,53 +98,9 @@ same-length-5 c = search needs
 returns-5 : tie.Need-returns-5
 returns-5 c =
     let k = c .before .before in
-    let t = k .before .before in
-    rw (echo (t .before .before .before .before) (ap isRead (t .enum-told .given .1))) (k .put-ack .ensures)
-
-same-length-6 : tie.Need-same-length-6
-same-length-6 c = search needs
-
-returns-6 : tie.Need-returns-6
-returns-6 c =
-    let k = c .before .before in
-    let t = k .before .before in
-    rw (echo (t .before .before .before .before) (ap isRead (t .enum-told2 .given .1))) (k .put-ack2 .ensures)
-
-same-length-7 : tie.Need-same-length-7
-same-length-7 c = search needs
-
-returns-7 : tie.Need-returns-7
-returns-7 c =
-    let k = c .before .before in
-    let t = k .before .before in
-    rw (echo (t .before .before .before .before) (ap isRead (t .enum-told3 .given .1))) (k .put-ack3 .ensures)
-
-same-length-8 : tie.Need-same-length-8
-same-length-8 c = search needs
-
-returns-8 : tie.Need-returns-8
-returns-8 c =
-    let k = c .before .before in
-    let t = k .before .before in
-    rw (echo (t .before .before .before .before) (ap isRead (t .enum-told4 .given .1))) (k .put-ack4 .ensures)
-
-same-length-9 : tie.Need-same-length-9
-same-length-9 c = search needs
-
-returns-9 : tie.Need-returns-9
-returns-9 c =
-    let k = c .before .before in
-    let t = k .before .before in
-    rw (echo (t .before .before .before .before) (ap isRead (t .enum-told5 .given .1))) (k .put-ack5 .ensures)
-
-same-length-10 : tie.Need-same-length-10
-same-length-10 c = search needs
-
-returns-10 : tie.Need-returns-10
-returns-10 c =
-    let k = c .before .before in
-    let t = k .before .before in
-    rw (echo (t .before .before .before .before) (ap isRead (t .enum-told6 .given .1))) (k .put-ack6 .ensures)
+    let d = k .before .before in
+    let s = d .before .before .before in
+    rw (echo s (is-other (s .args .command) (d .match .keys5))) (k .put-ack .ensures)
 
 pub put-payload-spec : {M : Type 1} → statement M
 put-payload-spec =
@@ -189,18 +114,7 @@ put-payload-spec =
     put-read-requires-2
     enum-known-command-4
     put-read-row-requires-2
-    enum-told
     put-ack-requires
-    enum-told-2
-    put-ack-requires-2
-    enum-told-3
-    put-ack-requires-3
-    enum-told-4
-    put-ack-requires-4
-    enum-told-5
-    put-ack-requires-5
-    enum-told-6
-    put-ack-requires-6
     same-length
     returns
     same-length-2
@@ -210,14 +124,4 @@ put-payload-spec =
     same-length-4
     returns-4
     same-length-5
-    returns-5
-    same-length-6
-    returns-6
-    same-length-7
-    returns-7
-    same-length-8
-    returns-8
-    same-length-9
-    returns-9
-    same-length-10
-    returns-10)
+    returns-5)
