@@ -30,7 +30,8 @@ use Rattle.cdi_model.specs.Values.{defaultValue}
 use Rattle.cdi_model.specs.Model.{actionGives, powerUpGives}
 use Rattle.cdi_model.proofs.Keys.{width}
 use Rattle.cdi_model.proofs.Checked.{Checked}
-use Rattle.cdi_store.specs.Store.{place, withSettings, withAddress, settingStored, inputFrom, inputStored, slotFrom, addressFrom, plainWritten, rowWritten, plainProgrammed, rowProgrammed, slotProgrammed, defaulted, erased, stateAfter, stateAtPowerUp}
+use Rattle.cdi_state.specs.State.{place}
+use Rattle.cdi_store.specs.Store.{withSettings, withAddress, settingStored, inputFrom, inputStored, slotFrom, addressFrom, plainWritten, rowWritten, plainProgrammed, rowProgrammed, slotProgrammed, defaulted, erased, stateAfter, stateAtPowerUp}
 use Rattle.cdi_module.specs.Machine.{settingHeld, cells}
 use Rattle.cdi_module.proofs.Views.{put-at, setting-put, setting-leaves-inputs, input-leaves-settings, input-put, same-singles}
 

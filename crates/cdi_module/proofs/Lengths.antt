@@ -23,7 +23,8 @@ use Rattle.cdi_command.proofs.Accepted.{slot-in-range, input-in-range}
 use Rattle.cdi_state.specs.declared.Settings.{Settings}
 use Rattle.cdi_state.specs.declared.ModuleState.{ModuleState}
 use Rattle.cdi_state.specs.State.{FieldLengths, noInput, noSlot}
-use Rattle.cdi_module.specs.Value.{nameShown, statusShown, plainValue, rowValue, valueRead}
+use Rattle.cdi_value.specs.Value.{nameShown, statusShown, plainValue}
+use Rattle.cdi_module.specs.Value.{rowValue, valueRead}
 use Rattle.cdi_module.proofs.Values.{input-at}
 
 -- a value's length is the item's; a name's is at most that

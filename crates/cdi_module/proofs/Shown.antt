@@ -18,7 +18,8 @@ use Rattle.cdi_model.specs.Cells.{Setting, lineMask, latchMask, txPower, contro
 use Rattle.cdi_model.specs.Action.{Source, held, one, status, readFrom, readNvFrom, sourceOf, actionOf}
 use Rattle.cdi_model.specs.Values.{upToZero}
 use Rattle.cdi_model.specs.Model.{shownSingle, statusOf, actionValue}
-use Rattle.cdi_module.specs.Value.{settingByte, nameShown, statusShown, plainValue, valueRead}
+use Rattle.cdi_value.specs.Value.{settingByte, nameShown, statusShown, plainValue}
+use Rattle.cdi_module.specs.Value.{valueRead}
 use Rattle.cdi_module.specs.Machine.{settingHeld, singleHeld, cells}
 
 name-agrees : (l : List ℕ) → nameShown l ≡ upToZero l

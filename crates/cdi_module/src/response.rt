@@ -7,16 +7,16 @@ ghost use lib.ListN.{length};
 ghost use Rattle.logic.specs.Written.{written};
 ghost use Rattle.cdi_frame.specs.Layout.{responseFrame};
 ghost use Rattle.cdi_command.specs.Payload.{indexByte, commandPayload, responsePayload, ackResponse, noError};
-ghost use Rattle.cdi_module.specs.Value.{valueMax, rowLength, valueRoom, shownBytes};
+ghost use Rattle.cdi_value.specs.Value.{valueMax, rowLength, shownBytes};
+ghost use Rattle.cdi_module.specs.Value.{valueRoom};
 ghost use Rattle.cdi_module.specs.Module.{responseMax};
-use super::value;
-use super::value::Shown;
 use cdi_command::Command;
 use cdi_command::Index;
 use cdi_frame::LENGTH_BASE;
 use cdi_frame::START;
 use cdi_frame::SYNC;
 use cdi_item::Item;
+use cdi_value::Shown;
 
 // The first byte of a response's payload: to Read, to Read NV, to every other command (001's ACK).
 const READ_RESPONSE: u8 = 0xC1;
@@ -28,6 +28,24 @@ const ACK_RESPONSE: u8 = 0xC0;
 // What stands behind ACK_RESPONSE where the command is accepted.
 const NO_ERROR: u8 = 0x00;
 
+// Writes bytes over the front of `out`.
+fn put(source: &[u8], out: &mut [u8]) -> usize
+    requires { ⌜ length (now source) ≤ length (now out) ⌝ }
+    ensures { λ r. ⌜ (r ≡ length (now (source .entry))) × (now (out .exit) ≡ written (now (out .entry)) (now (source .entry))) ⌝ }
+{
+    bytes::copy(source, out)
+}
+
+// Writes a value over the front of `out`.
+fn put_shown(shown: Shown, out: &mut [u8]) -> usize
+    requires { ⌜ (shown .length ≤ valueMax) × (shown .length ≤ length (now out)) ⌝ }
+    ensures { λ r. ⌜ (r ≡ shown .length) × (now (out .exit) ≡ written (now (out .entry)) (shownBytes shown)) ⌝ }
+{
+    let n = shown.length;
+    let bytes = shown.bytes;
+    put(&bytes[0..n], out)
+}
+
 // Writes the payload of the response to a read of an item that has no index.
 fn put_read(kind: u8, item: Item, shown: Shown, out: &mut [u8]) -> usize
     requires { ⌜ (shown .length ≤ valueMax) × (19 ≤ length (now out)) ⌝ }
@@ -35,7 +53,7 @@ fn put_read(kind: u8, item: Item, shown: Shown, out: &mut [u8]) -> usize
 {
     out[0] = kind;
     out[1] = item.code;
-    let length = value::put_shown(shown, &mut out[2..]);
+    let length = put_shown(shown, &mut out[2..]);
     2 + length
 }
 
@@ -56,7 +74,7 @@ fn put_read_row(kind: u8, item: Item, index: Index, shown: Shown, out: &mut [u8]
     out[0] = kind;
     out[1] = item.code;
     out[2] = index_byte(index);
-    let length = value::put_shown(shown, &mut out[3..]);
+    let length = put_shown(shown, &mut out[3..]);
     3 + length
 }
 
@@ -67,7 +85,7 @@ fn put_ack(payload: &[u8], out: &mut [u8]) -> usize
 {
     out[0] = ACK_RESPONSE;
     out[1] = NO_ERROR;
-    let echoed = value::put(payload, &mut out[2..]);
+    let echoed = put(payload, &mut out[2..]);
     2 + echoed
 }
 

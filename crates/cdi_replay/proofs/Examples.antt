@@ -9,7 +9,7 @@ use Rattle.cdi_item.specs.Values.{acceptedValue}
 use Rattle.cdi_frame.specs.Frame.{wakes, lengthAt, readFrame}
 use Rattle.cdi_command.specs.Command.{select, commandOn, validateItem, isServed, isHeadLengthRight, validatePayload}
 use Rattle.cdi_state.specs.Valid.{hasZero, validSlots, isValid}
-use Rattle.cdi_module.specs.Value.{settingByte, plainValue}
+use Rattle.cdi_value.specs.Value.{settingByte, plainValue}
 use Rattle.cdi_store.specs.Store.{settingStored}
 use Rattle.cdi_module.specs.Module.{commandIn, decide, step, resultOf}
 use Rattle.hex_text.specs.Hex.{space, lineFeed, pairs, hexLine, hexText, refusedText, notHexText, printed}

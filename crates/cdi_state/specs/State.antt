@@ -2,9 +2,12 @@
 use Prim.Native.Nat.{ℕ, zero, suc, _+_, _*_, _<_}
 use mathlib.Core.Path.{_≡_}
 use mathlib.Core.List.{List, [], _∷_, _++_}
+use mathlib.Core.Bool.{cond}
+use lib.Dec.{eqb}
 use lib.IntN.{ℤ}
 use lib.ListN.{length, getD, replicate}
 use Rattle.logic.specs.Signed.{signed}
+use Rattle.cdi_item.specs.Items as item
 use Rattle.cdi_state.specs.declared.Slot.{Slot}
 use Rattle.cdi_state.specs.declared.AnalogInput.{AnalogInput}
 use Rattle.cdi_state.specs.declared.Settings.{Settings}
@@ -32,6 +35,20 @@ noSlot = record { address = []; mask = 0 }
 abbrev pub inputAt : Settings → ℕ → AnalogInput
 inputAt t zero = noInput
 inputAt t (suc i) = getD (t .«analog_inputs») i noInput
+
+-- the settings of one byte as a list, in the order of their items: 11 to 15, 25
+abbrev pub settingBytes : Settings → List ℕ
+settingBytes t =
+    t .«line_mask» ∷ t .«latch_mask» ∷ t .«tx_power» ∷ t .«control_source» ∷ t .«message_select» ∷ t .«interrupt_mask» ∷ []
+
+-- an item's place in that list; 25's for any other
+abbrev pub place : ℕ → ℕ
+place code =
+    cond (eqb code item.lineMask) 0
+    (cond (eqb code item.latchMask) 1
+    (cond (eqb code item.txPower) 2
+    (cond (eqb code item.controlSource) 3
+    (cond (eqb code item.messageSelect) 4 5))))
 
 -- Set Default's values
 abbrev pub defaultInput : AnalogInput

@@ -19,21 +19,7 @@ use Rattle.cdi_state.specs.declared.Settings.{Settings}
 use Rattle.cdi_state.specs.declared.ModuleState.{ModuleState}
 use Rattle.cdi_store.specs.declared.Setting.{Setting}
 use Rattle.cdi_store.specs.declared.Setting.the-variants.{Byte, Row}
-use Rattle.cdi_state.specs.State.{defaultSettings, emptySlot, noRssi}
-
--- ---- the settings of one byte as a list, in the order of their items: 11 to 15, 25
-abbrev pub settingBytes : Settings → List ℕ
-settingBytes t =
-    t .«line_mask» ∷ t .«latch_mask» ∷ t .«tx_power» ∷ t .«control_source» ∷ t .«message_select» ∷ t .«interrupt_mask» ∷ []
-
--- an item's place in that list; 25's for any other
-abbrev pub place : ℕ → ℕ
-place code =
-    cond (eqb code item.lineMask) 0
-    (cond (eqb code item.latchMask) 1
-    (cond (eqb code item.txPower) 2
-    (cond (eqb code item.controlSource) 3
-    (cond (eqb code item.messageSelect) 4 5))))
+use Rattle.cdi_state.specs.State.{settingBytes, place, defaultSettings, emptySlot, noRssi}
 
 -- ---- a state with some of its parts replaced
 abbrev pub withAddress : ModuleState → List ℕ → ModuleState

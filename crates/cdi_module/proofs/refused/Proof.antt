@@ -1,9 +1,6 @@
 -- The outcome of a refusal, beside a payload that is refused.
 -- Assumes nothing.
-use mathlib.Core.Path.{ap}
 use borrow.Author.Needs.{needs}
-use Rattle.refusal.specs.declared.Outcome.{Outcome}
-use Rattle.cdi_command.specs.declared.Validated.the-variants.{Refused}
 use Rattle.cdi_module.proofs.refused.Statement.{statement}
 use Rattle.cdi_module.proofs.refused.Tie as tie
 

@@ -6,7 +6,7 @@ use mathlib.Core.Bool.{false}
 use mathlib.Core.List.{_∷_}
 use lib.ListN.{length}
 use Rattle.cdi_command.specs.Payload.{payloadMax, responsePayload, ackResponse, noError}
-use Rattle.cdi_module.specs.Value.{shownBytes}
+use Rattle.cdi_value.specs.Value.{shownBytes}
 use Rattle.cdi_store.specs.Store.{isRead}
 use Rattle.cdi_store.proofs.Tags.{is-other}
 use Rattle.cdi_module.proofs.Responses.{echoed, echo-short}

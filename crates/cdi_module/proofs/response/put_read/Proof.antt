@@ -6,7 +6,7 @@ use native.Mathlib.Omega.{arith}
 use lib.ListN.{length, length-set}
 use lib.Seq.{length-take-le}
 use Rattle.logic.proofs.Written.{written-length, written-behind, room-behind}
-use Rattle.cdi_module.specs.Value.{shownBytes}
+use Rattle.cdi_value.specs.Value.{shownBytes}
 use borrow.Author.Needs.{needs}
 use Rattle.cdi_module.proofs.response.put_read.Statement.{statement}
 use Rattle.cdi_module.proofs.response.put_read.Tie as tie

@@ -7,7 +7,7 @@ use native.Mathlib.Omega.{arith}
 use lib.ListN.{length, length-set}
 use lib.Seq.{length-take-le}
 use Rattle.logic.proofs.Written.{written-length, written-behind, room-behind}
-use Rattle.cdi_module.specs.Value.{shownBytes}
+use Rattle.cdi_value.specs.Value.{shownBytes}
 use Rattle.logic.specs.Written.{written}
 use Rattle.cdi_command.specs.Payload.{indexByte}
 use borrow.Author.Needs.{needs}

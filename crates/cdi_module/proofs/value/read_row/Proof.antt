@@ -1,23 +1,14 @@
 -- An index that fits is in range, so the row that is read is the one of that number.
 -- Assumes nothing.
 use Prim.Native.Nat.{_≤_}
-use mathlib.Core.Path.{_≡_}
 use native.Mathlib.Omega.{arith}
-use lib.ListN.{length}
 use Rattle.cdi_command.proofs.Accepted.{slot-in-range, input-in-range}
-use Rattle.cdi_module.specs.Value.{rowLength}
-use Rattle.cdi_module.proofs.Values.{input-at, shows-more}
+use Rattle.cdi_module.proofs.Values.{input-at}
 use borrow.Author.Needs.{needs}
 use Rattle.cdi_module.proofs.value.read_row.Statement.{statement}
 use Rattle.cdi_module.proofs.value.read_row.Tie as tie
 use Rattle.cdi_state.proofs.AnalogInput.bytes.Reads as AnalogInput-bytes-reads
 use Rattle.cdi_state.proofs.Slot.bytes.Reads as Slot-bytes-reads
-
-five : (b : tie.After-bytes) → length (b .bytes .result) ≡ 5
-five b = search needs
-
-five-2 : (b : tie.After-bytes2) → length (b .bytes2 .result) ≡ 5
-five-2 b = search needs
 
 in-range : (i : tie.After-index2) →
     let n = i .index2 .given .0 .0 .0 in
@@ -45,11 +36,8 @@ element-copy-out-slot c =
 bytes-requires : tie.Need-bytes-requires
 bytes-requires c κs = search needs
 
-slice-aggregate-show : tie.Need-slice-aggregate-show
-slice-aggregate-show c = search needs
-
-show-requires : tie.Need-show-requires
-show-requires c κs = search needs
+show-row-requires : tie.Need-show-row-requires
+show-row-requires c κs = search needs
 
 enum-known-index-2 : tie.Need-enum-known-index-2
 enum-known-index-2 c = search needs
@@ -69,24 +57,21 @@ element-copy-out-input c = omega (arith, in-range (c .before .before))
 bytes-requires-2 : tie.Need-bytes-requires-2
 bytes-requires-2 c κs = search needs
 
-slice-aggregate-show-2 : tie.Need-slice-aggregate-show-2
-slice-aggregate-show-2 c = search needs
-
-show-requires-2 : tie.Need-show-requires-2
-show-requires-2 c κs = search needs
+show-row-requires-2 : tie.Need-show-row-requires-2
+show-row-requires-2 c κs = search needs
 
 returns : tie.Need-returns
 returns c =
-    let b = c .before .before in
+    let b = c .before in
     let i = b .before .before .before .before in
-    rw (i .index .given .1) (rw (b .bytes .ensures) at (shows-more {m = rowLength} (c .show .ensures) (omega (arith, five b))))
+    rw (i .index .given .1) (rw (b .bytes .ensures) at (c .show-row .ensures))
 
 returns-2 : tie.Need-returns-2
 returns-2 c =
-    let b = c .before .before in
+    let b = c .before in
     let i = b .before .before .before .before in
     let n = i .index2 .given .0 .0 .0 in
-    rw (i .index2 .given .1, input-at (i .before .before .args .t2) n (in-range i .0)) (rw (b .bytes2 .ensures) at (shows-more {m = rowLength} (c .show2 .ensures) (omega (arith, five-2 b))))
+    rw (i .index2 .given .1, input-at (i .before .before .args .t2) n (in-range i .0)) (rw (b .bytes2 .ensures) at (c .show-row2 .ensures))
 
 pub read-row-spec : {M : Type 1} → statement M
 read-row-spec =
@@ -97,15 +82,13 @@ read-row-spec =
     mul-slot
     element-copy-out-slot
     bytes-requires
-    slice-aggregate-show
-    show-requires
+    show-row-requires
     enum-known-index-2
     sub-input
     cast-input
     mul-input
     element-copy-out-input
     bytes-requires-2
-    slice-aggregate-show-2
-    show-requires-2
+    show-row-requires-2
     returns
     returns-2)

@@ -1,9 +1,9 @@
 -- The tests are those of the item's place, in the same order.
 -- Assumes nothing.
 use borrow.Author.Tests.{ne-eqb}
-use Rattle.cdi_module.specs.Value.{settingByte}
-use Rattle.cdi_module.proofs.value.setting_byte.Statement.{statement}
-use Rattle.cdi_module.proofs.value.setting_byte.Tie as tie
+use Rattle.cdi_value.specs.Value.{settingByte}
+use Rattle.cdi_value.proofs.setting_byte.Statement.{statement}
+use Rattle.cdi_value.proofs.setting_byte.Tie as tie
 
 returns : tie.Need-returns
 unfolding settingByte

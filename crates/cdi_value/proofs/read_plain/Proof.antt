@@ -6,11 +6,11 @@ use native.Mathlib.Omega.{arith}
 use borrow.Author.Tests.{ne-eqb}
 use lib.ListN.{length}
 use Rattle.cdi_state.specs.declared.Settings.{Settings}
-use Rattle.cdi_module.specs.Value.{settingByte, statusShown, plainValue}
-use Rattle.cdi_module.proofs.Values.{shows-more}
+use Rattle.cdi_value.specs.Value.{settingByte, statusShown, plainValue}
+use Rattle.cdi_value.proofs.Values.{shows-more}
 use borrow.Author.Needs.{needs}
-use Rattle.cdi_module.proofs.value.read_plain.Statement.{statement}
-use Rattle.cdi_module.proofs.value.read_plain.Tie as tie
+use Rattle.cdi_value.proofs.read_plain.Statement.{statement}
+use Rattle.cdi_value.proofs.read_plain.Tie as tie
 
 lengths : (z : tie.Start) →
     let s = z .args .state in

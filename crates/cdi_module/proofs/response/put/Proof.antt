@@ -3,8 +3,8 @@
 use mathlib.Core.Path.{_∙_}
 use borrow.Author.Needs.{needs}
 use Rattle.logic.proofs.Written.{copied}
-use Rattle.cdi_module.proofs.value.put.Statement.{statement}
-use Rattle.cdi_module.proofs.value.put.Tie as tie
+use Rattle.cdi_module.proofs.response.put.Statement.{statement}
+use Rattle.cdi_module.proofs.response.put.Tie as tie
 
 copy-requires : tie.Need-copy-requires
 copy-requires c κs = search needs

@@ -8,8 +8,8 @@ use lib.ListN.{length, take}
 use lib.Seq.{length-take-le}
 use Rattle.logic.specs.Written.{written}
 use borrow.Author.Needs.{needs}
-use Rattle.cdi_module.proofs.value.put_shown.Statement.{statement}
-use Rattle.cdi_module.proofs.value.put_shown.Tie as tie
+use Rattle.cdi_module.proofs.response.put_shown.Statement.{statement}
+use Rattle.cdi_module.proofs.response.put_shown.Tie as tie
 
 seventeen : (s : tie.Start) → length (s .args .shown .bytes) ≡ 17
 seventeen s = search needs

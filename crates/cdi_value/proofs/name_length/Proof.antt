@@ -7,10 +7,10 @@ use native.Mathlib.Omega.{arith}
 use borrow.Author.Needs.{needs}
 use lib.ListN.{length, take, drop}
 use lib.Seq.{take-all}
-use Rattle.cdi_module.specs.Value.{nameShown}
-use Rattle.cdi_module.proofs.Values.{shown-zero, shown-other, shown-all}
-use Rattle.cdi_module.proofs.value.name_length.Statement.{statement}
-use Rattle.cdi_module.proofs.value.name_length.Tie as tie
+use Rattle.cdi_value.specs.Value.{nameShown}
+use Rattle.cdi_value.proofs.Values.{shown-zero, shown-other, shown-all}
+use Rattle.cdi_value.proofs.name_length.Statement.{statement}
+use Rattle.cdi_value.proofs.name_length.Tie as tie
 
 abbrev Inv-loop : tie.InvT-loop
 Inv-loop name i₀ i = (i ≤ 17) × (nameShown name ≡ take i name ++ nameShown (drop i name))

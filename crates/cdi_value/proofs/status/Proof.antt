@@ -1,9 +1,9 @@
 -- Each byte is chosen by the definition's test.
 -- Assumes nothing.
-use Rattle.cdi_module.specs.Value.{statusShown}
+use Rattle.cdi_value.specs.Value.{statusShown}
 use borrow.Author.Needs.{needs}
-use Rattle.cdi_module.proofs.value.status.Statement.{statement}
-use Rattle.cdi_module.proofs.value.status.Tie as tie
+use Rattle.cdi_value.proofs.status.Statement.{statement}
+use Rattle.cdi_value.proofs.status.Tie as tie
 
 select-requires : tie.Need-select-requires
 select-requires c κs = search needs
