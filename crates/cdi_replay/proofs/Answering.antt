@@ -11,7 +11,8 @@ use lib.Seq.{take-all, take-at, drop-at, drop-drop, length-take-le}
 use Rattle.logic.specs.Written.{written}
 use Rattle.logic.proofs.Rest.{nothing-left}
 use Rattle.bytes.specs.Bytes.{indexOf}
-use Rattle.hex_text.specs.Hex.{hexLine, printed, lineFeed}
+use Rattle.hex_text.specs.Hex.{hexLine, lineFeed}
+use Rattle.answer_text.specs.Text.{printed}
 use Rattle.cdi_state.specs.declared.ModuleState.{ModuleState}
 use Rattle.cdi_replay.specs.Replay.{lines, lineText, lineState, linesText, linesState}
 use Rattle.cdi_replay.specs.Answered.{printedMax, Prints, wholePart, withLineFeeds, fitting, answered, progress}

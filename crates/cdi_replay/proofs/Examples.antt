@@ -12,7 +12,8 @@ use Rattle.cdi_state.specs.Valid.{hasZero, validSlots, isValid}
 use Rattle.cdi_value.specs.Value.{settingByte, plainValue}
 use Rattle.cdi_store.specs.Store.{settingStored}
 use Rattle.cdi_module.specs.Module.{commandIn, decide, step, resultOf}
-use Rattle.hex_text.specs.Hex.{space, lineFeed, pairs, hexLine, hexText, refusedText, notHexText, printed}
+use Rattle.hex_text.specs.Hex.{space, lineFeed, pairs, hexLine}
+use Rattle.answer_text.specs.Text.{hexText, refusedText, notHexText, printed}
 use Rattle.cdi_replay.specs.Replay.{lines, linesText, replayed}
 use Rattle.cdi_replay.specs.Answered.{withLineFeeds}
 use Rattle.cdi_replay.specs.Theorem.{modelReplayed}

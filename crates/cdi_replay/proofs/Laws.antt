@@ -12,7 +12,8 @@ use lib.ListN.{length, take, drop, length-append}
 use lib.Seq.{take-all, drop-append-seam, drop-drop, length-take-le}
 use Rattle.logic.proofs.Choice.{by-cases}
 use Rattle.bytes.specs.Bytes.{indexOf}
-use Rattle.hex_text.specs.Hex.{hexLine, printed, lineFeed, lineMax}
+use Rattle.hex_text.specs.Hex.{hexLine, lineFeed, lineMax}
+use Rattle.answer_text.specs.Text.{printed}
 use Rattle.hex_text.proofs.Lines.{too-long}
 use Rattle.cdi_state.specs.declared.ModuleState.{ModuleState}
 use Rattle.cdi_replay.specs.Replay.{longer, lines, lineText, lineState, linesText, linesState, replayedFrom, stateAtEnd}

@@ -5,7 +5,8 @@ use Prim.Native.Nat.{ℕ}
 use mathlib.Core.Path.{_≡_, refl, sym, ap, _∙_}
 use mathlib.Core.Bool.{false}
 use mathlib.Core.List.{List, [], _∷_, _++_, append-nil, append-assoc}
-use Rattle.hex_text.specs.Hex.{hexLine, printed}
+use Rattle.hex_text.specs.Hex.{hexLine}
+use Rattle.answer_text.specs.Text.{printed}
 use Rattle.cdi_state.specs.declared.ModuleState.{ModuleState}
 use Rattle.cdi_state.specs.State.{factoryState}
 use Rattle.cdi_replay.specs.Replay.{lines, lineText, lineState, linesText, linesState, replayedFrom, replayed}

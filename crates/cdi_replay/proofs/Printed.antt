@@ -7,8 +7,9 @@ use native.Mathlib.Omega.{arith}
 use borrow.Author.Tests.{le-leb}
 use lib.ListN.{length, take}
 use lib.Seq.{length-take-le}
-use Rattle.hex_text.specs.Hex.{hexText, printed, lengthIn, writtenIn}
-use Rattle.hex_text.proofs.Text.{hexText-length}
+use Rattle.logic.specs.Written.{lengthIn, writtenIn}
+use Rattle.answer_text.specs.Text.{hexText, printed}
+use Rattle.answer_text.proofs.Text.{hexText-length}
 use Rattle.cdi_model.specs.Step.{StepResult}
 use Rattle.cdi_module.specs.Module.{responseMax}
 use Rattle.cdi_replay.specs.Replay.{resultText}

@@ -6,7 +6,8 @@ use mathlib.Core.List.{List, [], _∷_, _++_}
 use lib.Dec.{eqb, leb}
 use lib.ListN.{length, take}
 use Rattle.logic.specs.Written.{written}
-use Rattle.hex_text.specs.Hex.{Line, block, notHex, hexLine, printed, lineFeed}
+use Rattle.hex_text.specs.Hex.{Line, block, notHex, hexLine, lineFeed}
+use Rattle.answer_text.specs.Text.{printed}
 use Rattle.hex_text.specs.declared.HexLine.{HexLine}
 use Rattle.hex_text.specs.declared.HexLine.the-variants.{Block, NotHex, NoRoom}
 use Rattle.cdi_command.specs.Command.{validatedResult}

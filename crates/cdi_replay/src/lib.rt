@@ -8,7 +8,8 @@ ghost use Rattle.logic.specs.Written.{written};
 ghost use Rattle.cdi_command.specs.Command.{validatedResult};
 ghost use Rattle.cdi_state.specs.Valid.{isValid};
 ghost use Rattle.cdi_store.specs.Store.{stateFor};
-ghost use Rattle.hex_text.specs.Hex.{Line, notHexText};
+ghost use Rattle.hex_text.specs.Hex.{Line};
+ghost use Rattle.answer_text.specs.Text.{notHexText};
 ghost use Rattle.cdi_module.specs.Module.{responseMax};
 ghost use Rattle.cdi_replay.specs.Replay.{outcomeText, linesText};
 ghost use Rattle.cdi_replay.specs.Answered.{printedMax, lineRead, ReadWithin, Prints, Answers, answered, progress};
@@ -50,9 +51,9 @@ fn write_outcome(outcome: Outcome, response: &[u8], out: &mut [u8]) -> usize
 {
     let length = outcome.length;
     if length == 0 {
-        return hex_text::write_refused(outcome.refusal, out);
+        return answer_text::write_refused(outcome.refusal, out);
     }
-    hex_text::write_block(&response[0..length], out)
+    answer_text::write_block(&response[0..length], out)
 }
 
 // Responds to a block, and writes what came of it over the front of `out`. A state that is known to be valid is not looked at again.
@@ -77,7 +78,7 @@ fn answer_not_hex(out: &mut [u8]) -> LineAnswer
     requires { ⌜ printedMax ≤ length (now out) ⌝ }
     ensures { λ r. ⌜ (r .validated ≡ Validated.Refused 0) × (r .stores ≡ false) × Prints notHexText (now (out .entry)) (now (out .exit)) (r .printed) ⌝ }
 {
-    let printed = hex_text::write_not_hex(out);
+    let printed = answer_text::write_not_hex(out);
     LineAnswer {
         validated: Validated::Refused(NONE),
         stores: false,

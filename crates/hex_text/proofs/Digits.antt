@@ -1,17 +1,17 @@
--- Laws of digits: what a digit is, that its value is below 16, that a value's digit has that value, and that the code's tables
--- of bits, of values and of digits are right at each entry, which one computed test for each shows.
+-- Laws of digits: what a digit is, that its value is below 16, and that the code's tables of bits and of values are right at each
+-- entry, which one computed test for each shows.
 -- Assumes nothing.
-use Prim.Native.Nat.{ℕ, zero, suc, _+_, _-_, _/_, _%_, _^_, _<_, _≤_}
+use Prim.Native.Nat.{ℕ, zero, suc, _-_, _/_, _%_, _^_, _<_, _≤_}
 use mathlib.Core.Path.{_≡_, refl}
 use mathlib.Core.Bool.{Bool, true, _&&_, _||_, not, Bool·beq, and-eq-true-iff}
 use mathlib.Core.List.{List, [], _∷_}
 use mathlib.Core.Logic.{_⊎_, inl, inr, ⊎-elim}
 use native.Mathlib.Omega.{arith}
-use borrow.Author.Tests.{le-leb, lt-leb, ltb-true, ltb-false, leb-true, eqb-true, eqb-false}
-use lib.Dec.{ltb, leb, eqb}
+use borrow.Author.Tests.{le-leb, lt-leb, leb-true, eqb-true, eqb-false}
+use lib.Dec.{leb, eqb}
 use lib.ListN.{getD}
 use Rattle.logic.proofs.Choice.{by-cases, same, implied}
-use Rattle.hex_text.specs.Hex.{isDigit, isPair, digitValue, pairValue, digitOf, allDigits}
+use Rattle.hex_text.specs.Hex.{isDigit, isPair, digitValue, pairValue}
 
 pub digit-ranges : (c : ℕ) → isDigit c ≡ true → ((48 ≤ c) × (c ≤ 57)) ⊎ ((65 ≤ c) × (c ≤ 70))
 digit-ranges c e =
@@ -32,18 +32,12 @@ pair-small high low e =
     let p = pair-digits high low e in
     omega (arith, digit-small high (p .0), digit-small low (p .1))
 
-pub digit-back : (n : ℕ) → n < 16 → (isDigit (digitOf n) ≡ true) × (digitValue (digitOf n) ≡ n)
-digit-back n h =
-    by-cases (ltb n 10)
-    (λ t. let l = ltb-true n 10 t in simp (t, le-leb 48 (n + 48) (omega arith), le-leb (n + 48) 57 (omega arith)) (refl, omega arith))
-    (λ f. let l = ltb-false n 10 f in simp (f, le-leb 48 (n + 55) (omega arith), lt-leb (n + 55) 57 (omega arith), le-leb 65 (n + 55) (omega arith), le-leb (n + 55) 70 (omega arith)) (refl, omega arith))
-
 -- a test passes at each number below n
-abbrev every : (ℕ → Bool) → ℕ → Bool
+abbrev pub every : (ℕ → Bool) → ℕ → Bool
 every f zero = true
 every f (suc n) = f n && every f n
 
-below : (f : ℕ → Bool) (n : ℕ) → every f n ≡ true → (k : ℕ) → k < n → f k ≡ true
+pub below : (f : ℕ → Bool) (n : ℕ) → every f n ≡ true → (k : ℕ) → k < n → f k ≡ true
 below f zero e k h = absurd (omega arith)
 below f (suc n) e k h =
     let p = and-eq-true-iff (f n) (every f n) .0 e in
@@ -71,6 +65,3 @@ unfolding valueRight
 values-right c e =
     eqb-true (getD allValues (c - 48) 0) (digitValue c)
     (implied (isDigit c) (valueRight c) (below (λ (k : ℕ). not (isDigit k) || valueRight k) 71 refl c (digit-place c e .1)) e)
-
-pub digits-right : (n : ℕ) → n < 16 → getD allDigits n 0 ≡ digitOf n
-digits-right n h = eqb-true (getD allDigits n 0) (digitOf n) (below (λ (k : ℕ). eqb (getD allDigits k 0) (digitOf k)) 16 refl n h)

@@ -3,5 +3,4 @@ pub mod Spaced
 pub mod Pairs
 pub mod Lines
 pub mod Ends
-pub mod Text
 pub mod Laws

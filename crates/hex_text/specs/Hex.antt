@@ -1,10 +1,10 @@
--- Document 01, "The replay program": a line of upper-case hex pairs parted by one space, and the lines that are printed.
-use Prim.Native.Nat.{ℕ, _+_, _-_, _*_, _/_, _%_}
+-- Document 01, "The replay program": a line of upper-case hex pairs parted by one space, as it is read.
+use Prim.Native.Nat.{ℕ, _+_, _-_, _*_}
 use mathlib.Core.Bool.{Bool, true, false, cond, _&&_, _||_}
-use mathlib.Core.List.{List, [], _∷_, _++_}
+use mathlib.Core.List.{List, [], _∷_}
 use lib.Dec.{ltb, leb, eqb}
 use lib.ListN.{length, take, drop}
-use Rattle.logic.specs.Written.{written}
+use Rattle.logic.specs.Written.{writtenIn}
 use Rattle.bytes.specs.Bytes.{indexOf}
 use Rattle.hex_text.specs.declared.HexLine.{HexLine}
 use Rattle.hex_text.specs.declared.HexLine.the-variants.{Block, NotHex, NoRoom}
@@ -84,14 +84,6 @@ lineEnd from text = cond (leb from (length text)) (from + indexOf lineFeed (drop
 unfoldable pub hexLine : List ℕ → Line
 hexLine line = cond (ltb lineMax (length line)) notHex (cond (eqb (length line) 0) (block []) (pairs line))
 
--- bytes go over the front of a buffer where they fit, and not at all where they do not: how many are written, and the buffer
--- afterwards
-abbrev pub lengthIn : List ℕ → List ℕ → ℕ
-lengthIn buffer bytes = cond (leb (length bytes) (length buffer)) (length bytes) 0
-
-abbrev pub writtenIn : List ℕ → List ℕ → List ℕ
-writtenIn buffer bytes = cond (leb (length bytes) (length buffer)) (written buffer bytes) buffer
-
 -- each case of the answer to a line, with `room` bytes to put its block: the block's length where it fits
 abbrev pub lineAnswer : Line → ℕ → HexLine
 lineAnswer notHex room = NotHex
@@ -101,35 +93,3 @@ lineAnswer (block bs) room = cond (leb (length bs) room) (Block (length bs)) NoR
 abbrev pub lineWritten : Line → List ℕ → List ℕ
 lineWritten notHex buffer = buffer
 lineWritten (block bs) buffer = writtenIn buffer bs
-
--- the digit of a number below 16
-abbrev pub digitOf : ℕ → ℕ
-digitOf n = cond (ltb n 10) (n + 48) (n + 55)
-
--- the digits of 0 to 15
-abbrev pub allDigits : List ℕ
-allDigits = 48 ∷ 49 ∷ 50 ∷ 51 ∷ 52 ∷ 53 ∷ 54 ∷ 55 ∷ 56 ∷ 57 ∷ 65 ∷ 66 ∷ 67 ∷ 68 ∷ 69 ∷ 70 ∷ []
-
--- a block as upper-case hex pairs parted by one space
-unfoldable pub hexText : List ℕ → List ℕ
-hexText [] = []
-hexText (b ∷ []) = digitOf (b / 16) ∷ digitOf (b % 16) ∷ []
-hexText (b ∷ c ∷ bs) = digitOf (b / 16) ∷ digitOf (b % 16) ∷ space ∷ hexText (c ∷ bs)
-
--- a number below 1,000 in decimal, with no leading zero
-abbrev pub decimalText : ℕ → List ℕ
-decimalText n =
-    cond (ltb n 10) ((48 + n) ∷ [])
-    (cond (ltb n 100) ((48 + n / 10) ∷ (48 + n % 10) ∷ []) ((48 + n / 100) ∷ (48 + n / 10 % 10) ∷ (48 + n % 10) ∷ []))
-
--- `refused`, a space and the number
-abbrev pub refusedText : ℕ → List ℕ
-refusedText n = 114 ∷ 101 ∷ 102 ∷ 117 ∷ 115 ∷ 101 ∷ 100 ∷ 32 ∷ decimalText n
-
--- `not hex`
-abbrev pub notHexText : List ℕ
-notHexText = 110 ∷ 111 ∷ 116 ∷ 32 ∷ 104 ∷ 101 ∷ 120 ∷ []
-
--- a line feed ends each line
-abbrev pub printed : List ℕ → List ℕ
-printed text = text ++ lineFeed ∷ []

@@ -1,18 +1,14 @@
-// Lines of upper-case hex pairs parted by one space, read into bytes and written from bytes, and the other lines that the
-// replay program prints: document 01, "The replay program".
+// Lines of upper-case hex pairs parted by one space, read into bytes: document 01, "The replay program".
 ghost use mathlib.Core.Path.{_≡_};
 ghost use mathlib.Core.Bool.{true};
-ghost use mathlib.Core.List.{[], _∷_};
-ghost use Prim.Native.Nat.{_+_, _*_, _/_, _%_, _<_, _≤_};
+ghost use Prim.Native.Nat.{_+_, _*_, _<_, _≤_};
 ghost use lib.ListN.{length, drop};
-ghost use lib.Seq.{sets};
-ghost use Rattle.logic.specs.Written.{written};
-ghost use Rattle.hex_text.specs.Hex.{isDigit, isPair, isBlock, pairs, spaced, isLineEnd, lastPair, lineFrom, lineEnd, hexLine, lineAnswer, lineWritten, digitOf, allDigits, hexText, refusedText, notHexText, printed, lengthIn, writtenIn};
+ghost use Rattle.hex_text.specs.Hex.{isDigit, isPair, isBlock, pairs, spaced, isLineEnd, lastPair, lineFrom, lineEnd, hexLine, lineAnswer, lineWritten};
 
 // The most characters of a line of hex.
 pub const LINE_MAX: usize = 600;
 
-const SPACE: u8 = b' ';
+pub const SPACE: u8 = b' ';
 
 pub const LINE_FEED: u8 = b'\n';
 
@@ -164,88 +160,4 @@ pub fn read_line_at(text: &[u8], from: usize, block: &mut [u8]) -> LineAt
         line: HexLine::NotHex,
         end,
     }
-}
-
-const DIGITS: [u8; 16] = *b"0123456789ABCDEF";
-
-// Writes a byte's two digits and the character after them, from `at` on.
-fn write_pair(digits: &[u8; 16], byte: u8, after: u8, out: &mut [u8], at: usize)
-    requires { ⌜ (now digits ≡ allDigits) × (at + 3 ≤ length (now out)) ⌝ }
-    ensures { λ _. ⌜ now (out .exit) ≡ sets (now (out .entry)) at (digitOf (byte / 16) ∷ digitOf (byte % 16) ∷ after ∷ []) ⌝ }
-{
-    out[at] = digits[(byte / 16) as usize];
-    out[at + 1] = digits[(byte % 16) as usize];
-    out[at + 2] = after;
-}
-
-// Writes one byte or more as a line over the front of `out`, which has room for it.
-fn encode(bytes: &[u8], out: &mut [u8]) -> usize
-    requires { ⌜ (0 < length (now bytes)) × (3 * length (now bytes) ≤ length (now out)) ⌝ }
-    ensures { λ r. ⌜ (r ≡ length (printed (hexText (now (bytes .entry))))) × (now (out .exit) ≡ written (now (out .entry)) (printed (hexText (now (bytes .entry))))) ⌝ }
-{
-    let digits = DIGITS;
-    let mut i = 0;
-    let mut at = 0;
-    while i + 1 < bytes.len() {
-        write_pair(&digits, bytes[i], SPACE, out, at);
-        i += 1;
-        at += 3;
-    }
-    write_pair(&digits, bytes[i], LINE_FEED, out, at);
-    at + 3
-}
-
-// Copies a whole line over the front of `out` where it fits.
-fn copy_line(line: &[u8], out: &mut [u8]) -> usize
-    ensures { λ r. ⌜ (r ≡ lengthIn (now (out .entry)) (now (line .entry))) × (now (out .exit) ≡ writtenIn (now (out .entry)) (now (line .entry))) ⌝ }
-{
-    if line.len() > out.len() {
-        return 0;
-    }
-    bytes::copy(line, out)
-}
-
-// Writes bytes as a line of hex, with its line feed, over the front of `out`, and returns how many bytes that is; 0, and
-// nothing is written, where there is no room.
-pub fn write_block(bytes: &[u8], out: &mut [u8]) -> usize
-    ensures { λ r. ⌜ (r ≡ lengthIn (now (out .entry)) (printed (hexText (now (bytes .entry))))) × (now (out .exit) ≡ writtenIn (now (out .entry)) (printed (hexText (now (bytes .entry))))) ⌝ }
-{
-    if bytes.len() == 0 {
-        return copy_line(b"\n", out);
-    }
-    if bytes.len() > out.len() / 3 {
-        return 0;
-    }
-    encode(bytes, out)
-}
-
-// Writes `refused` and a number in decimal as a line, with its line feed, over the front of `out`, and returns how many
-// bytes that is; 0, and nothing is written, where there is no room.
-pub fn write_refused(number: u8, out: &mut [u8]) -> usize
-    ensures { λ r. ⌜ (r ≡ lengthIn (now (out .entry)) (printed (refusedText number))) × (now (out .exit) ≡ writtenIn (now (out .entry)) (printed (refusedText number))) ⌝ }
-{
-    if number < 10 {
-        let mut line = *b"refused 0\n";
-        line[8] = b'0' + number;
-        return copy_line(&line, out);
-    }
-    if number < 100 {
-        let mut line = *b"refused 00\n";
-        line[8] = b'0' + number / 10;
-        line[9] = b'0' + number % 10;
-        return copy_line(&line, out);
-    }
-    let mut line = *b"refused 000\n";
-    line[8] = b'0' + number / 100;
-    line[9] = b'0' + number / 10 % 10;
-    line[10] = b'0' + number % 10;
-    copy_line(&line, out)
-}
-
-// Writes `not hex` as a line, with its line feed, over the front of `out`, and returns how many bytes that is; 0, and
-// nothing is written, where there is no room.
-pub fn write_not_hex(out: &mut [u8]) -> usize
-    ensures { λ r. ⌜ (r ≡ lengthIn (now (out .entry)) (printed notHexText)) × (now (out .exit) ≡ writtenIn (now (out .entry)) (printed notHexText)) ⌝ }
-{
-    copy_line(b"not hex\n", out)
 }

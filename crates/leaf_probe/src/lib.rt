@@ -3,8 +3,9 @@
 ghost use mathlib.Core.Path.{_≡_};
 ghost use lib.ListN.{length};
 ghost use Rattle.cdi_state.specs.State.{inputOffset};
-ghost use Rattle.hex_text.specs.Hex.{lineFrom, lineEnd, hexLine, lineAnswer, lineWritten, hexText, refusedText, notHexText, printed, lengthIn, writtenIn};
-ghost use Rattle.logic.specs.Written.{written};
+ghost use Rattle.hex_text.specs.Hex.{lineFrom, lineEnd, hexLine, lineAnswer, lineWritten};
+ghost use Rattle.answer_text.specs.Text.{hexText, refusedText, notHexText, printed};
+ghost use Rattle.logic.specs.Written.{written, lengthIn, writtenIn};
 ghost use Rattle.cdi_replay.specs.Replay.{linesText};
 ghost use Rattle.cdi_replay.specs.Answered.{answered, progress};
 ghost use Rattle.leaf_probe.specs.Probe.{lineProbe};
@@ -68,7 +69,7 @@ pub extern "C" fn probe_read_line_at(text: &[u8], from: usize, block: &mut [u8])
 pub extern "C" fn probe_write_block(bytes: &[u8], out: &mut [u8]) -> usize
     ensures { λ r. ⌜ (r ≡ lengthIn (now (out .entry)) (printed (hexText (now (bytes .entry))))) × (now (out .exit) ≡ writtenIn (now (out .entry)) (printed (hexText (now (bytes .entry))))) ⌝ }
 {
-    hex_text::write_block(bytes, out)
+    answer_text::write_block(bytes, out)
 }
 
 // Writes the line of a refusal in the same way.
@@ -76,7 +77,7 @@ pub extern "C" fn probe_write_block(bytes: &[u8], out: &mut [u8]) -> usize
 pub extern "C" fn probe_write_refused(number: u8, out: &mut [u8]) -> usize
     ensures { λ r. ⌜ (r ≡ lengthIn (now (out .entry)) (printed (refusedText number))) × (now (out .exit) ≡ writtenIn (now (out .entry)) (printed (refusedText number))) ⌝ }
 {
-    hex_text::write_refused(number, out)
+    answer_text::write_refused(number, out)
 }
 
 // Writes the line that stands for a line that is not hex in the same way.
@@ -84,7 +85,7 @@ pub extern "C" fn probe_write_refused(number: u8, out: &mut [u8]) -> usize
 pub extern "C" fn probe_write_not_hex(out: &mut [u8]) -> usize
     ensures { λ r. ⌜ (r ≡ lengthIn (now (out .entry)) (printed notHexText)) × (now (out .exit) ≡ writtenIn (now (out .entry)) (printed notHexText)) ⌝ }
 {
-    hex_text::write_not_hex(out)
+    answer_text::write_not_hex(out)
 }
 
 // Answers the whole lines of `input` from a state on, over the front of `output`.

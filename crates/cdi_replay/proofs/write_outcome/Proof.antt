@@ -5,7 +5,7 @@ use native.Mathlib.Nat.{sub-zero}
 use native.Mathlib.Omega.{arith}
 use borrow.Author.Needs.{needs}
 use borrow.Author.Tests.{eq-eqb, ne-eqb}
-use Rattle.hex_text.proofs.Text.{refusedText-length}
+use Rattle.answer_text.proofs.Text.{refusedText-length}
 use Rattle.cdi_replay.proofs.Printed.{prints, response-short}
 use Rattle.cdi_replay.proofs.write_outcome.Statement.{statement}
 use Rattle.cdi_replay.proofs.write_outcome.Tie as tie

@@ -1,4 +1,4 @@
--- `hex_text::encode` meets its contract: what is left to write is the line of the bytes that are left, three characters for each.
+-- `answer_text::encode` meets its contract: what is left to write is the line of the bytes that are left, three characters for each.
 -- Assumes nothing.
 use Prim.Native.Nat.{_*_, _-_, _<_}
 use mathlib.Core.Path.{_≡_, refl, sym, ap, _∙_}
@@ -8,10 +8,10 @@ use borrow.Author.Needs.{needs}
 use lib.ListN.{length, drop}
 use lib.Seq.{sets}
 use Rattle.logic.proofs.Written.{stores}
-use Rattle.hex_text.specs.Hex.{hexText, printed}
-use Rattle.hex_text.proofs.Text.{hexText-length, more-left, last-left}
-use Rattle.hex_text.proofs.encode.Statement.{statement}
-use Rattle.hex_text.proofs.encode.Tie as tie
+use Rattle.answer_text.specs.Text.{hexText, printed}
+use Rattle.answer_text.proofs.Text.{hexText-length, more-left, last-left}
+use Rattle.answer_text.proofs.encode.Statement.{statement}
+use Rattle.answer_text.proofs.encode.Tie as tie
 
 abbrev Inv-loop : tie.InvT-loop
 Inv-loop bytes out₀ digits i₀ at₀ out i at =

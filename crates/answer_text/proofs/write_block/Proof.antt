@@ -1,14 +1,14 @@
--- `hex_text::write_block` meets its contract: with no byte the line is a line feed, else it has three characters a byte, so that the room is known first.
+-- `answer_text::write_block` meets its contract: with no byte the line is a line feed, else it has three characters a byte, so that the room is known first.
 -- Assumes nothing.
 use mathlib.Core.Path.{refl}
 use native.Mathlib.Omega.{arith}
 use borrow.Author.Needs.{needs}
 use borrow.Author.Tests.{le-leb, lt-leb}
 use lib.ListN.{length}
-use Rattle.hex_text.specs.Hex.{hexText, printed}
-use Rattle.hex_text.proofs.Text.{hexText-empty, hexText-length}
-use Rattle.hex_text.proofs.write_block.Statement.{statement}
-use Rattle.hex_text.proofs.write_block.Tie as tie
+use Rattle.answer_text.specs.Text.{hexText, printed}
+use Rattle.answer_text.proofs.Text.{hexText-empty, hexText-length}
+use Rattle.answer_text.proofs.write_block.Statement.{statement}
+use Rattle.answer_text.proofs.write_block.Tie as tie
 
 slice-aggregate-copy-line : tie.Need-slice-aggregate-copy-line
 slice-aggregate-copy-line c = search needs

@@ -1,9 +1,9 @@
--- `hex_text::write_refused` meets its contract: in each range of the number, the line that is built is the definition's.
+-- `answer_text::write_refused` meets its contract: in each range of the number, the line that is built is the definition's.
 -- Assumes nothing.
 use borrow.Author.Needs.{needs}
 use borrow.Author.Tests.{lt-ltb, le-ltb}
-use Rattle.hex_text.proofs.write_refused.Statement.{statement}
-use Rattle.hex_text.proofs.write_refused.Tie as tie
+use Rattle.answer_text.proofs.write_refused.Statement.{statement}
+use Rattle.answer_text.proofs.write_refused.Tie as tie
 
 add-line : tie.Need-add-line
 add-line c = search needs

@@ -1,13 +1,13 @@
--- `hex_text::write_pair` meets its contract: its stores are the list's, one after the other, and the table has the digit of each number below 16.
+-- `answer_text::write_pair` meets its contract: its stores are the list's, one after the other, and the table has the digit of each number below 16.
 -- Assumes nothing.
 use Prim.Native.Nat.{_/_, _%_}
 use native.Mathlib.Numerals.{add-one, add-two}
 use native.Mathlib.Omega.{arith}
 use borrow.Author.Needs.{needs}
 use lib.ListN.{length-set}
-use Rattle.hex_text.proofs.Digits.{digits-right}
-use Rattle.hex_text.proofs.write_pair.Statement.{statement}
-use Rattle.hex_text.proofs.write_pair.Tie as tie
+use Rattle.answer_text.proofs.Digits.{digits-right}
+use Rattle.answer_text.proofs.write_pair.Statement.{statement}
+use Rattle.answer_text.proofs.write_pair.Tie as tie
 
 cast-out : tie.Need-cast-out
 cast-out c = search needs

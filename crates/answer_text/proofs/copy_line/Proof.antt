@@ -1,11 +1,11 @@
--- `hex_text::copy_line` meets its contract: its test is the definitions' own, and the library's copy over the front is `written`.
+-- `answer_text::copy_line` meets its contract: its test is the definitions' own, and the library's copy over the front is `written`.
 -- Assumes nothing.
 use mathlib.Core.Path.{refl, _∙_}
 use borrow.Author.Needs.{needs}
 use borrow.Author.Tests.{le-leb, lt-leb}
 use Rattle.logic.proofs.Written.{copied}
-use Rattle.hex_text.proofs.copy_line.Statement.{statement}
-use Rattle.hex_text.proofs.copy_line.Tie as tie
+use Rattle.answer_text.proofs.copy_line.Statement.{statement}
+use Rattle.answer_text.proofs.copy_line.Tie as tie
 
 returns : tie.Need-returns
 returns c = simp (lt-leb _ _ (c .if1 .taken)) (refl, refl)

@@ -9,7 +9,8 @@ use lib.Dec.{ltb}
 use lib.ListN.{length, drop, getD, length-drop}
 use lib.Seq.{getD-drop, drop-drop}
 use Rattle.logic.proofs.Choice.{by-cases}
-use Rattle.hex_text.specs.Hex.{hexText, refusedText, printed, digitOf, space, lineFeed}
+use Rattle.hex_text.specs.Hex.{space, lineFeed}
+use Rattle.answer_text.specs.Text.{hexText, refusedText, printed, digitOf}
 
 -- three characters a byte, the line feed included
 pub hexText-length : (bytes : List ℕ) → 0 < length bytes → length (printed (hexText bytes)) ≡ 3 * length bytes
