@@ -62,26 +62,29 @@ pub fn write_block(bytes: &[u8], out: &mut [u8]) -> usize
     encode(bytes, out)
 }
 
+// The line feed under a short name: so the characters of a line stand in one row.
+const EOL: u8 = LINE_FEED;
+
 // Writes `refused` and a number in decimal as a line, with its line feed, over the front of `out`, and returns how many
-// bytes that is; 0, and nothing is written, where there is no room.
+// bytes that is; 0, and nothing is written, where there is no room. The digits are `a`, `b` and `c`, the first in front.
 pub fn write_refused(number: u8, out: &mut [u8]) -> usize
     ensures { λ r. ⌜ (r ≡ lengthIn (now (out .entry)) (printed (refusedText number))) × (now (out .exit) ≡ writtenIn (now (out .entry)) (printed (refusedText number))) ⌝ }
 {
     if number < 10 {
-        let mut line = *b"refused 0\n";
-        line[8] = b'0' + number;
+        let a = b'0' + number;
+        let line = [b'r', b'e', b'f', b'u', b's', b'e', b'd', b' ', a, EOL];
         return copy_line(&line, out);
     }
     if number < 100 {
-        let mut line = *b"refused 00\n";
-        line[8] = b'0' + number / 10;
-        line[9] = b'0' + number % 10;
+        let a = b'0' + number / 10;
+        let b = b'0' + number % 10;
+        let line = [b'r', b'e', b'f', b'u', b's', b'e', b'd', b' ', a, b, EOL];
         return copy_line(&line, out);
     }
-    let mut line = *b"refused 000\n";
-    line[8] = b'0' + number / 100;
-    line[9] = b'0' + number / 10 % 10;
-    line[10] = b'0' + number % 10;
+    let a = b'0' + number / 100;
+    let b = b'0' + number / 10 % 10;
+    let c = b'0' + number % 10;
+    let line = [b'r', b'e', b'f', b'u', b's', b'e', b'd', b' ', a, b, c, EOL];
     copy_line(&line, out)
 }
 

@@ -5,11 +5,8 @@ use borrow.Author.Tests.{lt-ltb, le-ltb}
 use Rattle.answer_text.proofs.write_refused.Statement.{statement}
 use Rattle.answer_text.proofs.write_refused.Tie as tie
 
-add-line : tie.Need-add-line
-add-line c = search needs
-
-array-write-line : tie.Need-array-write-line
-array-write-line c = search needs
+add-a : tie.Need-add-a
+add-a c = search needs
 
 slice-aggregate-copy-line : tie.Need-slice-aggregate-copy-line
 slice-aggregate-copy-line c = search needs
@@ -21,19 +18,13 @@ same-length : tie.Need-same-length
 same-length c = search needs
 
 returns : tie.Need-returns
-returns c = simp (lt-ltb _ _ (c .before .before .before .before .before .before .before .if1 .taken)) (c .before .before .copy-line .ensures)
+returns c = simp (lt-ltb _ _ (c .before .before .before .before .before .if1 .taken)) (c .before .before .copy-line .ensures)
 
-add-line-2 : tie.Need-add-line-2
-add-line-2 c = search needs
+add-a-2 : tie.Need-add-a-2
+add-a-2 c = search needs
 
-array-write-line-2 : tie.Need-array-write-line-2
-array-write-line-2 c = search needs
-
-add-line-3 : tie.Need-add-line-3
-add-line-3 c = search needs
-
-array-write-line-3 : tie.Need-array-write-line-3
-array-write-line-3 c = search needs
+add-b : tie.Need-add-b
+add-b c = search needs
 
 slice-aggregate-copy-line-2 : tie.Need-slice-aggregate-copy-line-2
 slice-aggregate-copy-line-2 c = search needs
@@ -46,26 +37,17 @@ same-length-2 c = search needs
 
 returns-2 : tie.Need-returns-2
 returns-2 c =
-    let test = c .before .before .before .before .before .before .before in
+    let test = c .before .before .before .before .before in
     simp (le-ltb _ _ (test .before .if1 .left), lt-ltb _ _ (test .if2 .taken)) (c .before .before .copy-line2 .ensures)
 
-add-line-4 : tie.Need-add-line-4
-add-line-4 c = search needs
+add-a-3 : tie.Need-add-a-3
+add-a-3 c = search needs
 
-array-write-line-4 : tie.Need-array-write-line-4
-array-write-line-4 c = search needs
+add-b-2 : tie.Need-add-b-2
+add-b-2 c = search needs
 
-add-line-5 : tie.Need-add-line-5
-add-line-5 c = search needs
-
-array-write-line-5 : tie.Need-array-write-line-5
-array-write-line-5 c = search needs
-
-add-line-6 : tie.Need-add-line-6
-add-line-6 c = search needs
-
-array-write-line-6 : tie.Need-array-write-line-6
-array-write-line-6 c = search needs
+add-c : tie.Need-add-c
+add-c c = search needs
 
 slice-aggregate-copy-line-3 : tie.Need-slice-aggregate-copy-line-3
 slice-aggregate-copy-line-3 c = search needs
@@ -78,33 +60,27 @@ same-length-3 c = search needs
 
 returns-3 : tie.Need-returns-3
 returns-3 c =
-    let test = c .before .before .before .before .before .before .before in
+    let test = c .before .before .before .before .before in
     simp (le-ltb _ _ (test .before .if1 .left), le-ltb _ _ (test .if2 .left)) (c .before .before .copy-line3 .ensures)
 
 pub write-refused-spec : {M : Type 1} → statement M
 write-refused-spec =
     tie.close
     (tie.spec
-    add-line
-    array-write-line
+    add-a
     slice-aggregate-copy-line
     copy-line-requires
     same-length
     returns
-    add-line-2
-    array-write-line-2
-    add-line-3
-    array-write-line-3
+    add-a-2
+    add-b
     slice-aggregate-copy-line-2
     copy-line-requires-2
     same-length-2
     returns-2
-    add-line-4
-    array-write-line-4
-    add-line-5
-    array-write-line-5
-    add-line-6
-    array-write-line-6
+    add-a-3
+    add-b-2
+    add-c
     slice-aggregate-copy-line-3
     copy-line-requires-3
     same-length-3
