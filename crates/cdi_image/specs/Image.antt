@@ -5,7 +5,7 @@ use mathlib.Core.Bool.{Bool, cond, not, _&&_}
 use lib.Dec.{eqb}
 use lib.ListN.{length, getD, take, drop}
 use Rattle.logic.specs.Lists.{below, sameBytes}
-use Rattle.refusal.specs.Refusal.{Result, accepted, refused, none, invalid, imageLength, imageMark, imageVersion}
+use Rattle.refusal.specs.Refusal.{Result, accepted, refused, invalid, imageLength, imageMark, imageVersion}
 use Rattle.cdi_state.specs.declared.AnalogInput.{AnalogInput}
 use Rattle.cdi_state.specs.declared.Slot.{Slot}
 use Rattle.cdi_state.specs.declared.Settings.{Settings}
@@ -14,7 +14,6 @@ use Rattle.cdi_state.specs.Valid.{hasZero, validSettings, validSlots, isValid}
 use Rattle.cdi_store.specs.Store.{stateAtPowerUp}
 use Rattle.cdi_model.specs.Cells.{nv, lineMask, latchMask, txPower, controlSource, messageSelect, interruptMask, setting, input, slot, address, name, firmware, serial, Cell, stored, single}
 use Rattle.cdi_module.specs.Machine.{cells}
-use Rattle.cdi_image.specs.declared.Loaded.{Loaded}
 
 -- ---- the image
 -- SWB
@@ -107,8 +106,3 @@ loaded s image =
     (cond (not (sameBytes (part 0 3 image) mark)) (refused imageMark)
     (cond (not (sameBytes (part 3 2 image) version)) (refused imageVersion)
     (cond (not (validContents image)) (refused invalid) (accepted (stateAtPowerUp (withImage s image))))))
-
--- what a Load answers: a refusal leaves the state
-abbrev pub loadedAs : ModuleState → Result ModuleState → Loaded
-loadedAs s (accepted t) = record { state = t; refusal = none }
-loadedAs s (refused n) = record { state = s; refusal = n }

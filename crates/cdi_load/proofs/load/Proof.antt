@@ -11,10 +11,11 @@ use Rattle.refusal.specs.Refusal.{accepted, refused, invalid}
 use Rattle.cdi_state.specs.declared.ModuleState.{ModuleState}
 use Rattle.cdi_state.specs.Valid.{isValid}
 use Rattle.cdi_store.specs.Store.{stateAtPowerUp}
-use Rattle.cdi_image.specs.Image.{mark, imageSize, part, withImage, validContents, loaded, loadedAs}
+use Rattle.cdi_image.specs.Image.{mark, imageSize, part, withImage, validContents, loaded}
+use Rattle.cdi_load.specs.Load.{loadedAs}
 use Rattle.cdi_image.proofs.Contents.{contents-alone}
-use Rattle.cdi_image.proofs.load.Statement.{statement}
-use Rattle.cdi_image.proofs.load.Tie as tie
+use Rattle.cdi_load.proofs.load.Statement.{statement}
+use Rattle.cdi_load.proofs.load.Tie as tie
 
 returns : tie.Need-returns
 unfolding loaded

@@ -1,9 +1,9 @@
 -- The first four bytes of a row are the address, each at its own place, and the fifth is the mask.
 -- Assumes nothing.
 use borrow.Author.Needs.{needs}
 use Rattle.cdi_image.proofs.Places.{part-is-bytes}
-use Rattle.cdi_image.proofs.read.slot_in.Statement.{statement}
-use Rattle.cdi_image.proofs.read.slot_in.Tie as tie
+use Rattle.cdi_load.proofs.read.slot_in.Statement.{statement}
+use Rattle.cdi_load.proofs.read.slot_in.Tie as tie
 
 shared-slice-read-t3 : tie.Need-shared-slice-read-t3
 shared-slice-read-t3 c = search needs
