@@ -129,9 +129,12 @@ command-checked : (payload : List ℕ) (r : Result Command) → validatePayload 
 command-checked payload (acceptedAs c) is = accepted-checked payload c is
 command-checked payload (refused n) is = tt
 
-frame-checked : (block : List ℕ) (r : Result Span) → CheckedDecision (decideFrame block r)
+pub payload-checked : (payload : List ℕ) → CheckedDecision (decidePayload payload)
 unfolding decidePayload
-frame-checked block (acceptedAs span) = command-checked (payloadIn block span) (validatePayload (payloadIn block span)) refl
+payload-checked payload = command-checked payload (validatePayload payload) refl
+
+frame-checked : (block : List ℕ) (r : Result Span) → CheckedDecision (decideFrame block r)
+frame-checked block (acceptedAs span) = payload-checked (payloadIn block span)
 frame-checked block (refused n) = tt
 
 pub step-checked : (s : Cells) (x : Step) → CheckedDecision (decide s x)

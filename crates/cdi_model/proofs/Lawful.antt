@@ -42,9 +42,9 @@ validity-kept s x =
     (λ e. refused-kept s (decide s x) (invalid-refused s x e))
 
 -- ---- beside validity, what the table names
--- the cells agree where the decision reads or stores
-abbrev AgreeOn : Decision → Cells → Cells → Type 0
-AgreeOn d s t = (c : Cell) → reads d c || stores d c ≡ true → t c ≡ s c
+-- the cells agree where the decision reads
+abbrev pub AgreeOn : Decision → Cells → Cells → Type 0
+AgreeOn d s t = (c : Cell) → reads d c ≡ true → t c ≡ s c
 
 module _ (s t : Cells) where
   -- an action reads the same value from cells that agree where it reads, ...
@@ -70,21 +70,20 @@ module _ (s t : Cells) where
   action-value eraseAll k h = refl
 
   -- ... and so does a step
-  value-framed : (d : Decision) → CheckedDecision d → AgreeOn d s t → valueRead t d ≡ valueRead s d
+  pub value-framed : (d : Decision) → CheckedDecision d → AgreeOn d s t → valueRead t d ≡ valueRead s d
   unfolding valueRead reads
   value-framed (refuse n) k h = refl
-  value-framed (execute payload a) k h = action-value a k (λ c p. h c (rw p))
+  value-framed (execute payload a) k h = action-value a k h
   value-framed executePowerUp k h = refl
 
   -- a step gives the same values: a power-up gives a working copy what it reads in the other
-  gives-framed : (d : Decision) → AgreeOn d s t → (c : Cell) → stores d c ≡ true → gives t d c ≡ gives s d c
+  pub gives-framed : (d : Decision) → AgreeOn d s t → (c : Cell) → stores d c ≡ true → gives t d c ≡ gives s d c
   unfolding gives reads stores
   gives-framed (refuse n) h c e = refl
   gives-framed (execute payload a) h c e = refl
   gives-framed executePowerUp h (stored nv k) e = cc (and-false (isKey k))
   gives-framed executePowerUp h (stored working k) e =
-      let p = and-eq-true-iff (isKey k && hasWorking k) (powerUpStores (stored working k)) .0 e .0 in
-      h (stored nv k) (rw p)
+      h (stored nv k) (and-eq-true-iff (isKey k && hasWorking k) (powerUpStores (stored working k)) .0 e .0)
   gives-framed executePowerUp h (single x) e = refl
 
 -- a decision knows no more of the cells than their validity
@@ -110,10 +109,11 @@ lawful = record {
   class = isValid;
   class-kept = validity-kept;
   framed = λ s t x e h.
-      let d : decide t x ≡ decide s x = decide-framed s t x e in (
+      let d : decide t x ≡ decide s x = decide-framed s t x e in
+      let agree : AgreeOn (decide s x) s t = λ c p. h c (rw p) in (
         d,
-        ap₂ (resultOf x) d (ap (valueRead t) d ∙ value-framed s t (decide s x) (step-checked s x) h),
-        λ c p. ap (λ (d : Decision). gives t d c) d ∙ gives-framed s t (decide s x) h c p,
+        ap₂ (resultOf x) d (ap (valueRead t) d ∙ value-framed s t (decide s x) (step-checked s x) agree),
+        λ c p. ap (λ (d : Decision). gives t d c) d ∙ gives-framed s t (decide s x) agree c p,
       );
   refused-touches-none = refused-touches-none;
 }

@@ -1,21 +1,29 @@
--- The table is tight: it names every cell that a step touches and no other, by one computation over every cell and every sample.
+-- The table is tight: it names every cell that a step touches, by the law that the sequence theorem asks of it, and no other, by one
+-- computation over every sample and every cell that it names.
 -- Assumes nothing.
 use Prim.Native.Nat.{ℕ}
-use mathlib.Core.Path.{_≡_, refl}
-use mathlib.Core.Bool.{Bool, true, _&&_, and-eq-true-iff}
-use mathlib.Core.List.{List, flatMap}
-use borrow.Author.Tests.{ltb-true}
+use mathlib.Core.Path.{_≡_, refl, sym, ap, _∙_}
+use mathlib.Core.Bool.{Bool, true, false, not, _&&_, _||_, Bool·beq, and-eq-true-iff, true≢false}
+use mathlib.Core.List.{List, [], _∷_, map, flatMap}
+use borrow.Author.Tests.{ltb-true, eq-eqb}
+use lib.Dec.{eqb}
 use lib.ListN.{length}
+use Rattle.logic.specs.Lists.{sameBytes}
+use Rattle.logic.proofs.Choice.{choice}
+use Rattle.refusal.specs.Refusal.{valueNotAccepted}
 use Rattle.cdi_item.specs.Items.{items, itemIn, itemOf}
 use Rattle.cdi_item.specs.Values.{acceptedValue}
 use Rattle.cdi_command.specs.Command.{select, commandOn, validateItem, isServed, isHeadLengthRight, validatePayload}
-use Rattle.cdi_model.specs.Cells.{nv, working, lineMask, latchMask, txPower, controlSource, messageSelect, interruptMask, setting, input, slot, address, name, firmware, serial, lines, rssi, ladj, events, flags, hardwarePower, hardwareLineMask, hardwareLatchMask, Cell, stored, single, Key, hasWorking, isKey, isCell}
+use Rattle.cdi_model.specs.Cells.{nv, working, lineMask, latchMask, txPower, controlSource, messageSelect, interruptMask, setting, input, slot, address, name, firmware, serial, lines, rssi, ladj, events, flags, hardwarePower, hardwareLineMask, hardwareLatchMask, Cell, stored, single, Key, hasWorking, isKey, isCell, same}
 use Rattle.cdi_model.specs.Values.{allZero, hasZero, upToZero}
 use Rattle.cdi_model.specs.Action.{Action, write, program, actionOf}
-use Rattle.cdi_model.specs.Table.{Decision, execute, isAccepted, reads, stores}
-use Rattle.cdi_model.specs.Model.{allBelow, isValid, decidePayload, gives, valueRead, responsePayload}
-use Rattle.cdi_model.specs.Tight.{all, everyCell, isIn, allApart, samplePayloads, sampleDecisions, stateOf, base, hardwareShown, workingShown, other, differIn, changed, isTight}
+use Rattle.cdi_model.specs.Table.{Decision, refuse, execute, executePowerUp, isAccepted, reads, stores}
+use Rattle.cdi_model.specs.Model.{Cells, allBelow, isValid, decidePayload, gives, valueRead, responsePayload}
+use Rattle.cdi_model.specs.Tight.{all, any, those, everyCell, isIn, allApart, samplePayloads, sampleDecisions, stateOf, base, hardwareShown, workingShown, other, differIn, changed, responseOf, differs, storedCells, matters, changes, isTight}
+use Rattle.cdi_model.proofs.Cells.{same-eq}
+use Rattle.cdi_model.proofs.Checked.{CheckedDecision, payload-checked}
 use Rattle.cdi_model.proofs.Validity.{all-at, each-input}
+use Rattle.cdi_model.proofs.Lawful.{AgreeOn, value-framed, gives-framed}
 
 -- ---- the list of cells is 01's: 68 cells, no one twice, ...
 pub cell-count : length everyCell ≡ 68
@@ -78,11 +86,88 @@ pub states-serve : (serves hardwareShown ≡ true) × (serves workingShown ≡ t
 unfolding stateOf everyCell isValid allBelow hasZero allZero
 states-serve = (refl, refl, refl)
 
+-- ---- what the table does not name
+module _ {A : Type 0} where
+  all-weaken : (f g : A → Bool) (l : List A) → ((x : A) → f x ≡ true → g x ≡ true) → all f l ≡ true → all g l ≡ true
+  all-weaken f g [] h e = refl
+  all-weaken f g (x ∷ l) h e =
+      let p = and-eq-true-iff (f x) (all f l) .0 e in
+      and-eq-true-iff (g x) (all g l) .1 (h x (p .0), all-weaken f g l h (p .1))
+
+  none-of : (p ok : A → Bool) (l : List A) → ((x : A) → p x ≡ true → ok x ≡ false) → any ok (those p l) ≡ false
+  none-of p ok [] h = refl
+  none-of p ok (x ∷ l) h = choice (λ m. any ok m ≡ false) (p x) (λ e. rw (h x e) (none-of p ok l h)) (λ _. none-of p ok l h)
+
+same-bytes-refl : (v : List ℕ) → sameBytes v v ≡ true
+same-bytes-refl [] = refl
+same-bytes-refl (b ∷ v) = and-eq-true-iff (eqb b b) (sameBytes v v) .1 (eq-eqb b b refl, same-bytes-refl v)
+
+-- a response shows no more than the value that is read
+response-framed : (s t : Cells) (d : Decision) → valueRead t d ≡ valueRead s d → responseOf t d ≡ responseOf s d
+response-framed s t (refuse n) e = refl
+response-framed s t (execute payload a) e = ap (responsePayload payload a) e
+response-framed s t executePowerUp e = refl
+
+-- a cell that is not named as read makes no difference, so the test need not be computed for it
+module _ (d : Decision) (checked : CheckedDecision d) (c : Cell) (unread : reads d c ≡ false) where
+  agree : (s : Cells) → AgreeOn d s (changed s c)
+  agree s e p =
+      choice (λ v. v ≡ s e) (same e c) (λ q. absurd (true≢false (sym p ∙ ap (reads d) (same-eq e c q) ∙ unread))) (λ _. refl)
+
+  no-difference : (s : Cells) → differs s d (storedCells d) c ≡ false
+  no-difference s =
+      let response = response-framed s (changed s c) d (value-framed s (changed s c) d checked (agree s)) in
+      rw response
+      (rw (same-bytes-refl (responseOf s d))
+      (none-of (stores d) (differIn (gives (changed s c) d) (gives s d)) everyCell
+      (λ e p. rw (gives-framed s (changed s c) d (agree s) e p) (rw (same-bytes-refl (gives s d e)) refl))))
+
+  matters-not : matters d (storedCells d) c ≡ false
+  matters-not = rw (no-difference (base hardwareShown)) (no-difference (base workingShown))
+
+-- ---- what the table names: if c is named as read it makes a difference, and if it is named as stored in it changes
+abbrev isUnpaddedAt : Decision → Cell → Bool
+isUnpaddedAt d c = (not (reads d c) || matters d (storedCells d) c) && (not (stores d c) || changes d c)
+
+abbrev isUnpadded : Decision → Bool
+isUnpadded d = all (isUnpaddedAt d) everyCell
+
+exact : (a b : Bool) → (a ≡ false → b ≡ false) → not a || b ≡ true → Bool·beq a b ≡ true
+exact true true h e = refl
+exact true false h e = cc
+exact false true h e = cc (h refl)
+exact false false h e = refl
+
+unpadded-tight : (d : Decision) → CheckedDecision d → isUnpadded d ≡ true → isTight d ≡ true
+unfolding isTight
+unpadded-tight d checked =
+    all-weaken (isUnpaddedAt d) _ everyCell (λ c e.
+    let p = and-eq-true-iff (not (reads d c) || matters d (storedCells d) c) (not (stores d c) || changes d c) .0 e in
+    and-eq-true-iff _ _ .1 (exact (reads d c) _ (matters-not d checked c) (p .0), exact (stores d c) _ (λ f. rw f) (p .1)))
+
 -- ---- the table
-pub table-is-tight : all isTight sampleDecisions ≡ true
-unfolding isTight sampleDecisions samplePayloads items flatMap decidePayload itemIn itemOf acceptedValue
+-- it names no cell too many, ...
+table-unpadded : all isUnpadded sampleDecisions ≡ true
+unfolding sampleDecisions samplePayloads items flatMap decidePayload itemIn itemOf acceptedValue
     select commandOn validateItem isServed isHeadLengthRight validatePayload stateOf everyCell reads stores gives valueRead responsePayload upToZero actionOf
-table-is-tight = refl
+table-unpadded = refl
+
+payloads-tight : (ps : List (List ℕ)) → all isUnpadded (map decidePayload ps) ≡ true → all isTight (map decidePayload ps) ≡ true
+payloads-tight [] e = refl
+payloads-tight (p ∷ ps) e =
+    let q = and-eq-true-iff (isUnpadded (decidePayload p)) _ .0 e in
+    and-eq-true-iff (isTight (decidePayload p)) _ .1 (unpadded-tight (decidePayload p) (payload-checked p) (q .0), payloads-tight ps (q .1))
+
+-- ... and none too few
+pub table-is-tight : all isTight sampleDecisions ≡ true
+unfolding sampleDecisions
+table-is-tight =
+    let p = and-eq-true-iff (isUnpadded (refuse valueNotAccepted)) _ .0 table-unpadded in
+    let q = and-eq-true-iff (isUnpadded executePowerUp) _ .0 (p .1) in
+    and-eq-true-iff _ _ .1 (
+      unpadded-tight (refuse valueNotAccepted) tt (p .0),
+      and-eq-true-iff _ _ .1 (unpadded-tight executePowerUp tt (q .0), payloads-tight samplePayloads (q .1)),
+    )
 
 -- ---- the samples stand for every payload and value: the table goes by the command and its key alone
 abbrev SameInTable : Decision → Decision → Type 0
