@@ -1,23 +1,26 @@
 -- The model on document 01's own numbers: whole runs from given cells, each step with its expected result, by computation.
 -- Assumes nothing.
 use Prim.Native.Nat.{ℕ, _-_}
-use mathlib.Core.Path.{_≡_, refl}
-use mathlib.Core.Bool.{true, cond}
-use mathlib.Core.List.{List, [], _∷_, _++_, map}
+use mathlib.Core.Path.{_≡_, refl, ap, ap₂, _∙_}
+use mathlib.Core.Bool.{Bool, true, cond}
+use mathlib.Core.List.{List, [], _∷_, _++_, map, map-congr-left}
+use lib.Dec.{ltb}
 use lib.ListN.{length, replicate}
 use Rattle.logic.specs.Written.{written}
+use Rattle.refusal.specs.Refusal.{invalid, responseBufferShort}
 use Rattle.cdi_item.specs.Items.{items, itemIn, itemOf}
 use Rattle.cdi_item.specs.Values.{acceptedValue}
 use Rattle.cdi_frame.specs.Frame.{wakes, lengthAt, readFrame}
 use Rattle.cdi_command.specs.Command.{select, commandOn, validateItem, isServed, isHeadLengthRight, validatePayload}
-use Rattle.sequence.specs.Model.{results}
+use Rattle.sequence.specs.Model.{next, results}
 use Rattle.cdi_model.specs.Cells.{nv, working, txPower, controlSource, messageSelect, interruptMask, setting, input, slot, address, Single, name, firmware, serial, lines, rssi, ladj, events, flags, hardwarePower, hardwareLineMask, hardwareLatchMask, Cell, stored, single, same}
 use Rattle.cdi_model.specs.Values.{allZero, hasZero, upToZero}
 use Rattle.cdi_model.specs.Factory.{factoryCells}
 use Rattle.cdi_model.specs.Step.{Step, powerUp, command, StepResult, poweredUp, responded}
 use Rattle.cdi_model.specs.Action.{actionOf}
-use Rattle.cdi_model.specs.Table.{stores}
-use Rattle.cdi_model.specs.Model.{Cells, allBelow, isValid, decide, decidePayload, decideBlock, gives, valueRead, responsePayload, resultOf, model}
+use Rattle.cdi_model.specs.Table.{Decision, refuse, executePowerUp, stores}
+use Rattle.cdi_model.specs.Model.{Cells, allBelow, isValid, responseBufferMin, decide, decidePayload, decideBlock, gives, valueRead, responsePayload, resultOf, model}
+use Rattle.cdi_model.proofs.Lawful.{validity-kept}
 
 -- ---- cells
 -- the factory's, with another value in one cell
@@ -295,9 +298,44 @@ pub factory-valid : isValid factoryCells ≡ true
 unfolding isValid allBelow hasZero allZero
 factory-valid = refl
 
+-- ---- no step changes validity, so it is computed once for a run
+abbrev decideBy : Bool → Step → Decision
+decideBy valid powerUp = cond valid executePowerUp (refuse invalid)
+decideBy valid (command block response) =
+    cond (ltb (length response) responseBufferMin) (refuse responseBufferShort) (cond valid (decideBlock block) (refuse invalid))
+
+decide-by : (s : Cells) (x : Step) → decide s x ≡ decideBy (isValid s) x
+unfolding decide
+decide-by s powerUp = refl
+decide-by s (command block response) = refl
+
+abbrev resultBy : Step → Cells → Decision → StepResult
+resultBy x s d = resultOf x d (valueRead s d)
+
+abbrev nextBy : Cells → Decision → Cells
+nextBy s d = λ c. cond (stores d c) (gives s d c) (s c)
+
+abbrev resultsBy : Bool → Cells → List Step → List StepResult
+resultsBy valid s [] = []
+resultsBy valid s (x ∷ xs) = resultBy x s (decideBy valid x) ∷ resultsBy valid (nextBy s (decideBy valid x)) xs
+
+results-by : (valid : Bool) (s : Cells) (xs : List Step) → isValid s ≡ valid → results model s xs ≡ resultsBy valid s xs
+unfolding results
+results-by valid s [] e = refl
+results-by valid s (x ∷ xs) e =
+    let d : decide s x ≡ decideBy valid x = decide-by s x ∙ ap (λ (v : Bool). decideBy v x) e in
+    ap₂ _∷_ (ap (resultBy x s) d)
+    (results-by valid (next model s x) xs (validity-kept s x ∙ e) ∙ ap (λ (d : Decision). resultsBy valid (nextBy s d) xs) d)
+
+abbrev resultsOf : Run → List StepResult
+resultsOf r = resultsBy (isValid (r .start)) (r .start) (steps r)
+
+runs-hold : map resultsOf runs ≡ map expected runs
+unfolding written items itemIn itemOf acceptedValue wakes lengthAt readFrame
+    select commandOn validateItem isServed isHeadLengthRight validatePayload allZero hasZero upToZero actionOf
+    stores allBelow isValid decidePayload decideBlock gives valueRead responsePayload resultOf
+runs-hold = refl
+
 -- the model gives every result of the table
 pub examples-hold : map (λ (r : Run). results model (r .start) (steps r)) runs ≡ map expected runs
-unfolding results written items itemIn itemOf acceptedValue wakes lengthAt readFrame
-    select commandOn validateItem isServed isHeadLengthRight validatePayload allZero hasZero upToZero actionOf
-    stores allBelow isValid decide decidePayload decideBlock gives valueRead responsePayload resultOf
-examples-hold = refl
+examples-hold = map-congr-left {l = runs} (λ r _. results-by (isValid (r .start)) (r .start) (steps r) refl) ∙ runs-hold
