@@ -22,7 +22,7 @@ use Rattle.cdi_model.specs.Model.{Cells, allBelow, isValid, decidePayloa
 use Rattle.cdi_model.specs.Tight.{all, any, those, everyCell, isIn, allApart, samplePayloads, sampleDecisions, stateOf, base, hardwareShown, workingShown, other, differIn, changed, responseOf, differs, storedCells, matters, changes, isTight}
 use Rattle.cdi_model.proofs.Cells.{same-eq}
 use Rattle.cdi_model.proofs.Checked.{CheckedDecision, payload-checked}
-use Rattle.cdi_model.proofs.Validity.{all-at, each-input}
+use Rattle.cdi_model.proofs.Validity.{all-at, takes, each-input, valid-takes, takes-valid}
 use Rattle.cdi_model.proofs.Lawful.{AgreeOn, value-framed, gives-framed}
 
 -- ---- the list of cells is 01's: 68 cells, no one twice, ...
@@ -82,9 +82,30 @@ abbrev serves : ℕ → Bool
 serves control =
     isValid (base control) && all (differIn (base control) other) everyCell && all (λ c. isValid (changed (base control) c)) everyCell
 
+all-true : (f : Cell → Bool) → ((c : Cell) → f c ≡ true) → (l : List Cell) → all f l ≡ true
+all-true f h [] = refl
+all-true f h (c ∷ l) = and-eq-true-iff (f c) (all f l) .1 (h c, all-true f h l)
+
+-- validity goes cell by cell, so it is computed for the states alone
+states-valid : (isValid (base hardwareShown) ≡ true) × (isValid (base workingShown) ≡ true) × (isValid other ≡ true)
+unfolding stateOf isValid allBelow hasZero allZero
+states-valid = (refl, refl, refl)
+
+changed-valid : (s : Cells) → isValid s ≡ true → (c : Cell) → isValid (changed s c) ≡ true
+changed-valid s e c =
+    takes-valid (changed s c)
+    (λ d h. choice (λ v. takes d v ≡ true) (same d c) (λ _. valid-takes other (states-valid .2) d h) (λ _. valid-takes s e d h))
+
+cells-differ : (all (differIn (base hardwareShown) other) everyCell ≡ true) × (all (differIn (base workingShown) other) everyCell ≡ true)
+unfolding stateOf everyCell
+cells-differ = (refl, refl)
+
+state-serves : (control : ℕ) → isValid (base control) ≡ true → all (differIn (base control) other) everyCell ≡ true → serves control ≡ true
+state-serves control e differ = rw (e, differ) (all-true _ (changed-valid (base control) e) everyCell)
+
 pub states-serve : (serves hardwareShown ≡ true) × (serves workingShown ≡ true) × (isValid other ≡ true)
-unfolding stateOf everyCell isValid allBelow hasZero allZero
-states-serve = (refl, refl, refl)
+states-serve =
+    (state-serves hardwareShown (states-valid .0) (cells-differ .0), state-serves workingShown (states-valid .1) (cells-differ .1), states-valid .2)
 
 -- ---- what the table does not name
 module _ {A : Type 0} where
