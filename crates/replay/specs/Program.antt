@@ -1,9 +1,10 @@
 -- What the program keeps from one turn to the next, around the text that `cdi_replay` has for an input.
-use Prim.Native.Nat.{ℕ, _-_}
+use Prim.Native.Nat.{ℕ, zero, suc, _-_}
 use mathlib.Core.Path.{_≡_}
 use mathlib.Core.Bool.{Bool, true, false}
 use mathlib.Core.Logic.{_⊎_}
-use mathlib.Core.List.{List}
+use mathlib.Core.List.{List, [], _++_}
+use lib.IntN.{ℤ, pos, negsuc}
 use lib.ListN.{length, take, drop}
 use Rattle.cdi_state.specs.declared.ModuleState.{ModuleState}
 use Rattle.cdi_replay.specs.Replay.{linesText, linesState}
@@ -18,8 +19,28 @@ bufferSize = 65536
 abbrev pub part : ℕ → ℕ → List ℕ → List ℕ
 part from end buffer = take (end - from) (drop from buffer)
 
--- the characters that are there once more is read: what was kept stands before them, alone where the read failed, and with the line
--- feed that it lacks where the input has ended
+-- what a read answers: how many characters it gave, none at the end of the input, or a number below 0 where it failed
+abbrev pub isEnd : ℤ → Bool
+isEnd (pos zero) = true
+isEnd (pos (suc n)) = false
+isEnd (negsuc n) = false
+
+abbrev pub isFailed : ℤ → Bool
+isFailed (pos n) = false
+isFailed (negsuc n) = true
+
+-- the characters that it gave, from the place on that it was told
+abbrev pub charsGiven : ℤ → List ℕ → List ℕ
+charsGiven (pos n) place = take n place
+charsGiven (negsuc n) place = []
+
+-- the characters that are there afterwards: those given stand behind those kept, and at the end of the input the last line has the line
+-- feed that it may lack
+abbrev pub charsAfter : (kept given : List ℕ) (ended : Bool) → List ℕ
+charsAfter kept given true = lastLine kept
+charsAfter kept given false = kept ++ given
+
+-- what was kept stands before what is read, alone where the read failed, and with the line feed that it lacks where the input has ended
 pub record Refilled (kept chars : List ℕ) (ended failed : Bool) : Type 0 where
   pub front : take (length kept) chars ≡ kept
   pub last : ended ≡ true → chars ≡ lastLine kept

@@ -5,10 +5,11 @@
 // whose end is still to be read, and prints what is answered before it reads on.
 ghost use mathlib.Core.Path.{_≡_};
 ghost use mathlib.Core.Bool.{true};
-ghost use Prim.Native.Nat.{_+_, _-_, _≤_};
-ghost use lib.ListN.{length, take};
+ghost use Prim.Native.Nat.{_-_, _<_, _≤_};
+ghost use lib.ListN.{length, take, drop};
 ghost use Rattle.cdi_replay.specs.Session.{keptMax, keptOf};
-ghost use Rattle.replay.specs.Program.{bufferSize, part, Refilled, Turned};
+ghost use Rattle.libc.specs.Io.{Moved};
+ghost use Rattle.replay.specs.Program.{bufferSize, part, isEnd, isFailed, charsGiven, charsAfter, Refilled, Turned};
 use cdi_replay::PRINTED_MAX;
 use cdi_state::ModuleState;
 use hex_text::LINE_FEED;
@@ -19,12 +20,6 @@ use libc::STDOUT_FILENO;
 // What is kept of a line whose end is still to be read. A line with one character too many stays too long whatever follows, so
 // the rest of it need not be kept.
 const KEPT_MAX: usize = LINE_MAX + 1;
-
-// What a read gave: how many bytes, and whether it failed. Where it gave none and did not fail, the input has ended.
-struct Piece {
-    count: usize,
-    failed: bool,
-}
 
 // What of the input buffer holds characters, whether the input has ended behind them, and whether it cannot be read.
 struct Filled {
@@ -58,60 +53,64 @@ fn keep(input: &mut [u8], from: usize, end: usize) -> usize
     i
 }
 
-// Reads once, behind the first `kept` bytes of `input`. Where that fails, standard error says why.
-fn read_input(input: &mut [u8], kept: usize) -> Piece
+// Reads once, behind the first `kept` bytes of `input`, and returns what the read answered: how many bytes it gave, 0 at the end of
+// the input, or -1. Where it failed, standard error says why.
+fn read_input(input: &mut [u8], kept: usize) -> isize
     requires { ⌜ kept ≤ length (now input) ⌝ }
-    ensures { λ r. ⌜ (kept + r .count ≤ length (now (input .entry))) × (take kept (now (input .exit)) ≡ take kept (now (input .entry))) ⌝ }
+    ensures { λ r. ⌜ Moved (length (now (input .entry)) - kept) r × (take kept (now (input .exit)) ≡ take kept (now (input .entry))) ⌝ }
 {
-    let part = &mut input[kept..];
-    let got = libc::read(STDIN_FILENO, part);
-    let count = io::count(got, part);
+    let got = libc::read(STDIN_FILENO, &mut input[kept..]);
     if got < 0 {
         os::fail(b"replay: standard input cannot be read");
     }
-    Piece {
-        count,
-        failed: got < 0,
-    }
+    got
 }
 
-// Reads on behind input[from..end], a line whose end is still to be read. Where the input has ended, a line feed ends the line.
-fn refill(input: &mut [u8], from: usize, end: usize) -> Filled
-    requires { ⌜ (length (now input) ≡ bufferSize) × (from ≤ end) × (end ≤ bufferSize) ⌝ }
-    ensures { λ r. ⌜ (r .end ≤ bufferSize)
-        × Refilled (keptOf (part from end (now (input .entry)))) (take (r .end) (now (input .exit))) (r .ended) (r .failed) ⌝ }
+// What there is once a read answered `got`, behind the first `kept` bytes. Where the input has ended, a line feed ends the line.
+fn take_in(input: &mut [u8], kept: usize, got: isize) -> Filled
+    requires { ⌜ (kept < length (now input)) × Moved (length (now input) - kept) got ⌝ }
+    ensures { λ r. ⌜ (r .end ≤ length (now (input .entry))) × (r .ended ≡ isEnd got) × (r .failed ≡ isFailed got)
+        × (take (r .end) (now (input .exit)) ≡ charsAfter (take kept (now (input .entry))) (charsGiven got (drop kept (now (input .entry)))) (isEnd got)) ⌝ }
 {
-    let kept = keep(input, from, end);
-    let piece = read_input(input, kept);
-    let count = piece.count;
-    let failed = piece.failed;
-    if failed {
+    if got < 0 {
         return Filled {
             end: kept,
             ended: false,
-            failed,
+            failed: true,
         };
     }
+    let count = io::count(got, &input[kept..]);
     if count > 0 {
         return Filled {
             end: kept + count,
             ended: false,
-            failed,
+            failed: false,
         };
     }
     if kept == 0 {
         return Filled {
             end: 0,
             ended: true,
-            failed,
+            failed: false,
         };
     }
     input[kept] = LINE_FEED;
     Filled {
         end: kept + 1,
         ended: true,
-        failed,
+        failed: false,
     }
+}
+
+// Reads on behind input[from..end], a line whose end is still to be read.
+fn refill(input: &mut [u8], from: usize, end: usize) -> Filled
+    requires { ⌜ (length (now input) ≡ bufferSize) × (from ≤ end) × (end ≤ bufferSize) ⌝ }
+    ensures { λ r. ⌜ (r .end ≤ bufferSize)
+        × Refilled (keptOf (part from end (now (input .entry)))) (take (r .end) (now (input .exit))) (r .ended) (r .failed) ⌝ }
+{
+    let kept = keep(input, from, end);
+    let got = read_input(input, kept);
+    take_in(input, kept, got)
 }
 
 // Prints a text and returns whether it could. Where it could not, standard error says why.

@@ -1,11 +1,11 @@
--- `replay::refill` meets its contract: what is read stands behind what was kept, and a line feed ends a last line that lacks it.
+-- `replay::refill` meets its contract: what the read gave stands behind what was kept, and a line feed ends a last line that lacks it.
 -- Assumes nothing.
-use Prim.Native.Nat.{_<_, _≤_}
-use mathlib.Core.Path.{_∙_}
 use native.Mathlib.Omega.{arith}
 use borrow.Author.Needs.{needs}
-use lib.ListN.{length, length-set}
-use Rattle.replay.proofs.Kept.{read-failed, read-on, ended-empty, ended-line}
+use mir.Facts.{toZ-ofZ}
+use mir.Syntax.{w64}
+use mir.Val.{toZ, ofZ}
+use Rattle.replay.proofs.Kept.{refilled-after}
 use Rattle.replay.proofs.refill.Statement.{statement}
 use Rattle.replay.proofs.refill.Tie as tie
 
@@ -15,81 +15,30 @@ keep-requires c κs = search needs
 read-input-requires : tie.Need-read-input-requires
 read-input-requires c κs = search needs
 
+take-in-requires : tie.Need-take-in-requires
+take-in-requires c κs =
+    let read = c .before .before .before .read-input in
+    let k = c .before .before .before .before .before .before .before in
+    let keep = k .keep in
+    let z = k .before .before .before in (
+      omega (arith, keep .ensures .0, keep .kept .0, read .kept .0, z .pre .0),
+      rw (toZ-ofZ {w = w64} {z = read .result} (search needs), read .kept .0) (read .ensures .0),
+    )
+
 same-length : tie.Need-same-length
 same-length c = search needs
 
 returns : tie.Need-returns
 returns c =
-    let keep = c .before .before .before .before .before .before .before .keep in
-    let read = c .before .before .before .read-input in
-    let within : keep .result ≤ length (read .last .0) = omega (arith, keep .ensures .1, keep .kept .0, read .kept .0) in (
-      omega (arith, keep .ensures .0, read .ensures .0),
-      read-failed _ (keep .last .0) (read .last .0) (keep .result) (keep .ensures .2) (read .ensures .1) within _,
-    )
-
-add-t13 : tie.Need-add-t13
-add-t13 c = search needs
-
-same-length-2 : tie.Need-same-length-2
-same-length-2 c = search needs
-
-returns-2 : tie.Need-returns-2
-returns-2 c =
-    let keep = c .before .before .before .before .before .before .before .before .keep in
-    let read = c .before .before .before .before .read-input in
-    let within : keep .result ≤ length (read .last .0) = omega (arith, keep .ensures .1, keep .kept .0, read .kept .0) in (
-      omega (arith, keep .ensures .0, read .ensures .0),
-      read-on _ (keep .last .0) (read .last .0) (keep .result) (keep .ensures .2) (read .ensures .1) within _ _ (c .before .if1 .left),
-    )
-
-same-length-3 : tie.Need-same-length-3
-same-length-3 c = search needs
-
-returns-3 : tie.Need-returns-3
-returns-3 c =
-    let keep = c .before .before .before .before .before .before .before .before .before .keep in
-    let read = c .before .before .before .before .before .read-input in
-    let within : keep .result ≤ length (read .last .0) = omega (arith, keep .ensures .1, keep .kept .0, read .kept .0) in (
-      omega (arith, keep .ensures .0, read .ensures .0),
-      ended-empty _ (keep .last .0) (read .last .0) (keep .result) (keep .ensures .2) (read .ensures .1) within _ (c .before .before .if1 .left) (c .if3 .taken),
-    )
-
-slice-write-input : tie.Need-slice-write-input
-slice-write-input c = search needs
-
-add-t15 : tie.Need-add-t15
-add-t15 c = search needs
-
-same-length-4 : tie.Need-same-length-4
-same-length-4 c =
-    let keep = c .before .before .before .before .before .before .before .before .before .keep in
-    let read = c .before .before .before .before .before .read-input in
-    simp length-set (read .kept .0 ∙ keep .kept .0)
-
-returns-4 : tie.Need-returns-4
-returns-4 c =
-    let keep = c .before .before .before .before .before .before .before .before .before .keep in
-    let read = c .before .before .before .before .before .read-input in
-    let within : keep .result ≤ length (read .last .0) = omega (arith, keep .ensures .1, keep .kept .0, read .kept .0) in
-    let room : keep .result < length (read .last .0) = omega (arith, keep .ensures .0, keep .kept .0, read .kept .0) in (
-      omega (arith, keep .ensures .0, read .ensures .0),
-      ended-line _ (keep .last .0) (read .last .0) (keep .result) (keep .ensures .2) (read .ensures .1) within _ (c .before .before .if1 .left) (c .if3 .left) room,
+    let take-in = c .before .before .take-in in
+    let read = c .before .before .before .before .before .before .read-input in
+    let k = c .before .before .before .before .before .before .before .before .before .before in
+    let keep = k .keep in
+    let z = k .before .before .before in (
+      omega (arith, take-in .ensures .0, keep .kept .0, read .kept .0, z .pre .0),
+      refilled-after _ (keep .last .0) (read .last .0) _ (keep .result) (toZ w64 (ofZ w64 (read .result))) _ _ (keep .ensures .2) (read .ensures .1)
+          (take-in .ensures .1) (take-in .ensures .2) (take-in .ensures .3),
     )
 
 pub refill-spec : {M : Type 1} → statement M
-refill-spec =
-    tie.close
-    (tie.spec
-    keep-requires
-    read-input-requires
-    same-length
-    returns
-    add-t13
-    same-length-2
-    returns-2
-    same-length-3
-    returns-3
-    slice-write-input
-    add-t15
-    same-length-4
-    returns-4)
+refill-spec = tie.close (tie.spec keep-requires read-input-requires take-in-requires same-length returns)
