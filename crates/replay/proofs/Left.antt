@@ -2,13 +2,16 @@
 -- Assumes nothing.
 use Prim.Native.Nat.{ℕ, _+_, _-_, _≤_}
 use mathlib.Core.Path.{_≡_, refl, sym, ap, _∙_}
-use mathlib.Core.Bool.{Bool, true, false, not, _&&_, _||_, false≢true}
+use mathlib.Core.Bool.{Bool, true, false, not, _&&_, false≢true}
 use mathlib.Core.List.{List}
 use native.Mathlib.Nat.{sub-zero}
 use native.Mathlib.Omega.{arith}
+use borrow.Author.Tests.{ltb-false}
+use lib.Dec.{ltb}
 use lib.ListN.{length, take, drop, length-append, length-drop}
 use lib.Seq.{take-add, drop-at, drop-drop, length-take-le}
 use Rattle.logic.specs.Written.{written}
+use Rattle.logic.proofs.Choice.{by-cases}
 use Rattle.logic.proofs.Written.{written-front}
 use Rattle.cdi_state.specs.declared.ModuleState.{ModuleState}
 use Rattle.cdi_replay.specs.declared.Progress.{Progress}
@@ -16,7 +19,7 @@ use Rattle.cdi_replay.specs.Replay.{linesText, linesState}
 use Rattle.cdi_replay.specs.Answered.{printedMax, unfinished, withLineFeeds, answered, progress}
 use Rattle.cdi_replay.specs.Session.{keptOf}
 use Rattle.cdi_replay.proofs.Laws.{consumed-within, unfinished-left}
-use Rattle.replay.specs.Program.{bufferSize, part, Refilled, answers, leftBehind}
+use Rattle.replay.specs.Program.{bufferSize, part, Refilled, answers, leftBehind, isFull, Stays}
 
 -- a part of a buffer, once some of it is behind
 part-behind : (l : List ℕ) (from end n : ℕ) → from + n ≤ end → end ≤ length l → part (from + n) end l ≡ drop n (part from end l)
@@ -28,14 +31,14 @@ part-behind l from end n within inside =
     (rw (← drop-drop n from l) (sym (drop-at (take n (drop from l)) (take k (drop n (drop from l))) n (length-take-le n (drop from l) (omega arith)))))
 
 -- what is known once the characters from `from` as far as `end` are answered: all that is consumed was there, the text lies in the
--- output buffer from its first byte on, and what is left is a line that is not finished where there is room for one more
+-- output buffer from its first byte on, and whether there is room for one more
 pub record Learnt (state : ModuleState) (input : List ℕ) (from end : ℕ) (output : List ℕ) (r : Progress) : Type 0 where
   pub start-within : from + r .consumed ≤ end
   pub text-within : r .written ≤ length output
   pub state-after : r .state ≡ linesState state (answers state (part from end input))
   pub printed : take (length (linesText state (answers state (part from end input)))) output ≡ linesText state (answers state (part from end input))
   pub left : part (from + r .consumed) end input ≡ leftBehind state (part from end input)
-  pub not-finished : printedMax ≤ length output - r .written → leftBehind state (part from end input) ≡ unfinished (part from end input)
+  pub full : ltb (length output - r .written) printedMax ≡ isFull state (part from end input)
 
 -- that is what the contract of `replay_lines` says, in an output buffer of the program's size
 pub learnt : (state : ModuleState) (input before after : List ℕ) (from end : ℕ) (r : Progress) → from ≤ end → end ≤ length input
@@ -61,7 +64,7 @@ learnt state input before after from end r ordered inside size same result buffe
       state-after = ap (λ (p : Progress). p .state) told;
       printed = ap (take (length text)) placed ∙ written-front before text;
       left = part-behind input from end (r .consumed) within inside ∙ ap (λ (n : ℕ). drop n chars) consumed;
-      not-finished = λ room. unfinished-left state chars bufferSize (omega (arith, count));
+      full = rw (same ∙ size, count);
     }
 
 -- what is read stands from the buffer's first place on
@@ -69,8 +72,17 @@ pub refilled : (kept left buffer : List ℕ) (end : ℕ) (ended failed : Bool) �
     → Refilled (keptOf left) (take end buffer) ended failed → Refilled (keptOf kept) (part 0 end buffer) ended failed
 refilled kept left buffer end ended failed e h = rw (← e, sub-zero) h
 
--- without another turn the output had room, and the input has ended
-pub at-last : (printed full ended : Bool) → (not printed || full) || ended ≡ true → printed && not full ≡ true → (full ≡ false) × (ended ≡ true)
-at-last true true ended e last = absurd (false≢true last)
-at-last true false ended e last = (refl, e)
-at-last false full ended e last = absurd (false≢true last)
+-- a turn is the last where its text is printed and a line more would fit
+pub done-where : (printed full : Bool) → printed && not full ≡ not (not printed) && not full
+done-where true full = refl
+done-where false full = refl
+
+-- where a line more would fit, only a line is left that is not finished
+pub not-finished : (state : ModuleState) (chars : List ℕ) → isFull state chars ≡ false → leftBehind state chars ≡ unfinished chars
+not-finished state chars e = unfinished-left state chars bufferSize (ltb-false (bufferSize - length (linesText state (answers state chars))) printedMax e)
+
+-- after the last turn nothing is left but that, and the input has ended
+pub at-last : (state : ModuleState) (chars rest : List ℕ) (ended endedAfter : Bool) → Stays state chars ended rest endedAfter true false
+    → (ended ≡ true) × (leftBehind state chars ≡ unfinished chars)
+at-last state chars rest ended endedAfter stays =
+    by-cases (isFull state chars) (λ t. absurd (false≢true (rw t at (sym (stays .is-done))))) (λ f. (rw f at (stays .why), not-finished state chars f))

@@ -16,6 +16,7 @@ use Rattle.cdi_replay.proofs.Lines.{unfinished-has-none, last-line-finished}
 use Rattle.cdi_replay.proofs.Laws.{pieces, pieces-then, unfinished-kept, last-line, none-taken, kept-enough}
 use Rattle.cdi_replay.proofs.Theorem.{replay-theorem}
 use Rattle.replay.specs.Program.{bufferSize, answers, leftBehind, Stays, ReadsOn}
+use Rattle.replay.proofs.Left.{not-finished, at-last}
 use Rattle.replay.specs.Run.{charsRead, Run, last, next, RunTheorem}
 
 -- where the input has ended, what is there are whole lines
@@ -25,12 +26,13 @@ Finished ended chars = ended ≡ true → unfinished chars ≡ []
 -- ---- one turn
 -- the last turn prints all that is there
 last-text : (s : ModuleState) (chars rest : List ℕ) (ended endedAfter : Bool)
-    → Stays s chars ended rest endedAfter true ⊎ ReadsOn s chars ended rest endedAfter true false → Finished ended chars
+    → Stays s chars ended rest endedAfter true false ⊎ ReadsOn s chars ended rest endedAfter true false → Finished ended chars
     → linesText s (answers s chars) ≡ replayedFrom s (chars ++ [])
 unfolding lines linesText
 last-text s chars rest ended endedAfter (inr reads) finished = absurd (false≢true (sym (reads .not-done)))
 last-text s chars rest ended endedAfter (inl stays) finished =
-    let none : leftBehind s chars ≡ [] = stays .last refl .1 ∙ finished (stays .last refl .0) in
+    let at = at-last s chars rest ended endedAfter stays in
+    let none : leftBehind s chars ≡ [] = at .1 ∙ finished (at .0) in
     rw append-nil (sym (pieces s chars bufferSize .0 ∙ rw none (append-nil _)))
 
 module _ (s after : ModuleState) (chars rest : List ℕ) (state-after : after ≡ linesState s (answers s chars)) where
@@ -38,9 +40,9 @@ module _ (s after : ModuleState) (chars rest : List ℕ) (state-after : after �
   left-text : (later : List ℕ) → linesText s (answers s chars) ++ replayedFrom after (leftBehind s chars ++ later) ≡ replayedFrom s (chars ++ later)
   left-text later = rw state-after (sym (pieces-then s chars bufferSize later .0))
 
-  module _ (not-finished : leftBehind s chars ≡ unfinished chars) where
+  module _ (left : leftBehind s chars ≡ unfinished chars) where
     part-of-line : hasLineFeed (leftBehind s chars) ≡ false
-    part-of-line = rw not-finished (unfinished-has-none chars)
+    part-of-line = rw left (unfinished-has-none chars)
 
     -- so does what is kept of a line that is not finished
     kept-text : (later : List ℕ) → linesText s (answers s chars) ++ replayedFrom after (keptOf (leftBehind s chars) ++ later) ≡ replayedFrom s (chars ++ later)
@@ -57,7 +59,7 @@ module _ (s after : ModuleState) (chars rest : List ℕ) (state-after : after �
 -- ---- the turns one after the other
 -- where the input has ended no more is read
 stays-ended : (s : ModuleState) (chars rest input : List ℕ) (ended endedAfter : Bool)
-    (left : Stays s chars ended rest endedAfter false ⊎ ReadsOn s chars ended rest endedAfter false false) → ended ≡ true → (endedAfter ≡ true → input ≡ [])
+    (left : Stays s chars ended rest endedAfter false false ⊎ ReadsOn s chars ended rest endedAfter false false) → ended ≡ true → (endedAfter ≡ true → input ≡ [])
     → charsRead (keptOf (leftBehind s chars)) rest endedAfter left ++ input ≡ []
 stays-ended s chars rest input ended endedAfter (inl stays) e none = none (stays .same-end ∙ e)
 stays-ended s chars rest input ended endedAfter (inr reads) e none = absurd (false≢true (sym (reads .not-ended) ∙ e))
@@ -68,7 +70,7 @@ none-read (next t run) e = stays-ended _ _ _ _ _ _ (t .left) e (λ ended. none-r
 
 -- a turn prints the text before that of the turns behind it
 next-text : (s after : ModuleState) (chars rest input text : List ℕ) (ended endedAfter : Bool)
-    (left : Stays s chars ended rest endedAfter false ⊎ ReadsOn s chars ended rest endedAfter false false)
+    (left : Stays s chars ended rest endedAfter false false ⊎ ReadsOn s chars ended rest endedAfter false false)
     → after ≡ linesState s (answers s chars) → Finished ended chars
     → (Finished endedAfter rest → text ≡ replayedFrom after (rest ++ input)) → (endedAfter ≡ true → input ≡ [])
     → linesText s (answers s chars) ++ text ≡ replayedFrom s (chars ++ (charsRead (keptOf (leftBehind s chars)) rest endedAfter left ++ input))
@@ -81,9 +83,9 @@ next-text s after chars rest input text ended endedAfter (inr reads) state-after
     by-cases endedAfter
     (λ t.
     let line : rest ≡ lastLine kept = reads .refilled .last t in
-    let whole : Finished endedAfter rest = λ e. ap unfinished line ∙ last-line-finished kept (kept-part s after chars rest state-after (reads .not-finished)) in
+    let whole : Finished endedAfter rest = λ e. ap unfinished line ∙ last-line-finished kept (kept-part s after chars rest state-after (not-finished s chars (reads .not-full))) in
     let all : text ≡ replayedFrom after (lastLine kept ++ []) = then whole ∙ rw (line, none t) in
-    rw (t, all, none t) (last-line-text s after chars rest state-after (reads .not-finished)))
+    rw (t, all, none t) (last-line-text s after chars rest state-after (not-finished s chars (reads .not-full))))
     (λ f.
     let piece = drop (length kept) rest in
     let split : rest ≡ kept ++ piece =
@@ -91,7 +93,7 @@ next-text s after chars rest input text ended endedAfter (inr reads) state-after
     let unended : Finished endedAfter rest = λ e. absurd (false≢true (sym f ∙ e)) in
     let all : text ≡ replayedFrom after (kept ++ (piece ++ input)) =
     then unended ∙ ap (λ (l : List ℕ). replayedFrom after (l ++ input)) split ∙ ap (replayedFrom after) (append-assoc kept piece input) in
-    rw (f, all) (kept-text s after chars rest state-after (reads .not-finished) (piece ++ input)))
+    rw (f, all) (kept-text s after chars rest state-after (not-finished s chars (reads .not-full)) (piece ++ input)))
 
 run-text : {s : ModuleState} {chars input text : List ℕ} {ended : Bool} → Run s chars ended input text → Finished ended chars
     → text ≡ replayedFrom s (chars ++ input)

@@ -1,14 +1,15 @@
 -- What the program keeps from one turn to the next, around the text that `cdi_replay` has for an input.
 use Prim.Native.Nat.{ℕ, zero, suc, _-_}
 use mathlib.Core.Path.{_≡_}
-use mathlib.Core.Bool.{Bool, true, false}
+use mathlib.Core.Bool.{Bool, true, false, not, _&&_, _||_}
 use mathlib.Core.Logic.{_⊎_}
 use mathlib.Core.List.{List, [], _++_}
+use lib.Dec.{ltb}
 use lib.IntN.{ℤ, pos, negsuc}
 use lib.ListN.{length, take, drop}
 use Rattle.cdi_state.specs.declared.ModuleState.{ModuleState}
 use Rattle.cdi_replay.specs.Replay.{linesText, linesState}
-use Rattle.cdi_replay.specs.Answered.{unfinished, withLineFeeds, answered}
+use Rattle.cdi_replay.specs.Answered.{printedMax, withLineFeeds, answered}
 use Rattle.cdi_replay.specs.Session.{keptOf, lastLine}
 
 -- the input buffer and the output buffer
@@ -53,16 +54,22 @@ answers state chars = answered state chars bufferSize
 abbrev pub leftBehind : ModuleState → List ℕ → List ℕ
 leftBehind state chars = drop (length (withLineFeeds (answers state chars))) chars
 
--- what the answered lines leave is there still; after the last turn that is no whole line, and the input has ended
-pub record Stays (state : ModuleState) (chars : List ℕ) (ended : Bool) (rest : List ℕ) (endedAfter done : Bool) : Type 0 where
+-- whether a line more might not fit behind their text
+abbrev pub isFull : ModuleState → List ℕ → Bool
+isFull state chars = ltb (bufferSize - length (linesText state (answers state chars))) printedMax
+
+-- what the answered lines leave is there still, and no more is read: the text could not be printed, a line more might not fit, or the
+-- input has ended. The turn is the last where all fitted and is printed
+pub record Stays (state : ModuleState) (chars : List ℕ) (ended : Bool) (rest : List ℕ) (endedAfter done failed : Bool) : Type 0 where
   pub same : rest ≡ leftBehind state chars
   pub same-end : endedAfter ≡ ended
-  pub last : done ≡ true → (ended ≡ true) × (leftBehind state chars ≡ unfinished chars)
+  pub why : (failed || isFull state chars) || ended ≡ true
+  pub is-done : done ≡ not failed && not (isFull state chars)
 
--- what they leave is a line that is not finished, and more was read behind what is kept of it
+-- all fitted, the input has not ended, and more was read behind what is kept of the line that is not finished
 pub record ReadsOn (state : ModuleState) (chars : List ℕ) (ended : Bool) (rest : List ℕ) (endedAfter done failed : Bool) : Type 0 where
+  pub not-full : isFull state chars ≡ false
   pub not-ended : ended ≡ false
-  pub not-finished : leftBehind state chars ≡ unfinished chars
   pub refilled : Refilled (keptOf (leftBehind state chars)) rest endedAfter failed
   pub not-done : done ≡ false
 
@@ -72,4 +79,4 @@ pub record Turned (state : ModuleState) (chars : List ℕ) (ended : Bool) (outpu
     (after : ModuleState) (rest : List ℕ) (endedAfter done failed : Bool) : Type 0 where
   pub printed : take (length (linesText state (answers state chars))) output ≡ linesText state (answers state chars)
   pub state-after : after ≡ linesState state (answers state chars)
-  pub left : Stays state chars ended rest endedAfter done ⊎ ReadsOn state chars ended rest endedAfter done failed
+  pub left : Stays state chars ended rest endedAfter done failed ⊎ ReadsOn state chars ended rest endedAfter done failed

@@ -7,12 +7,11 @@ use mathlib.Core.Bool.{not, _||_}
 use mathlib.Core.Logic.{inl, inr}
 use native.Mathlib.Omega.{arith}
 use borrow.Author.Needs.{needs}
-use borrow.Author.Tests.{ltb-false}
 use lib.Dec.{ltb}
 use lib.ListN.{length}
 use Rattle.logic.proofs.Choice.{neither}
 use Rattle.cdi_replay.specs.Answered.{printedMax}
-use Rattle.replay.proofs.Left.{Learnt, learnt, refilled, at-last}
+use Rattle.replay.proofs.Left.{Learnt, learnt, refilled, done-where}
 use Rattle.replay.proofs.turn.Statement.{statement}
 use Rattle.replay.proofs.turn.Tie as tie
 
@@ -67,9 +66,7 @@ returns c =
     let s = c .before .before .before .before .before .before .before .before .before .before .before .before .before .before .before in
     let answers = c .before .before .before .before .before .before .before .before .replay-lines in
     let k = known (c .before .before .before .before .before .before .before .before) in
-    let room = length (answers .last .1 .1 .0) - answers .result .written in
-    let print = c .before .print .result in
-    let test = c .if1 .taken in (
+    let room = length (answers .last .1 .1 .0) - answers .result .written in (
       k .start-within,
       search needs,
       record {
@@ -78,7 +75,8 @@ returns c =
         left = inl (record {
           same = k .left;
           same-end = refl;
-          last = λ e. let p = at-last print (ltb room printedMax) (s .args .session .ended) test e in (p .1, k .not-finished (ltb-false room printedMax (p .0)));
+          why = rw (← k .full) (c .if1 .taken);
+          is-done = rw (← k .full) (done-where (c .before .print .result) (ltb room printedMax));
         });
       },
     )
@@ -107,8 +105,8 @@ returns-2 c =
         printed = k .printed;
         state-after = k .state-after;
         left = inr (record {
+          not-full = rw (← k .full) full;
           not-ended = test .1;
-          not-finished = k .not-finished (ltb-false room printedMax full);
           refilled = refilled _ _ (refill .last .0) (refill .result .end) (refill .result .ended) (refill .result .failed) (k .left) (refill .ensures .1);
           not-done = refl;
         });
