@@ -1,4 +1,4 @@
--- Document 01, "The replay program": the lines that are printed.
+-- Document 01, "Examples": the lines that are printed.
 use Prim.Native.Nat.{ℕ, _+_, _/_, _%_}
 use mathlib.Core.Bool.{cond}
 use mathlib.Core.List.{List, [], _∷_, _++_}

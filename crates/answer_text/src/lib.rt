@@ -1,4 +1,4 @@
-// The lines that the replay program prints, written from bytes and numbers: document 01, "The replay program".
+// The lines that the replay program prints, written from bytes and numbers: document 01, "Examples".
 ghost use mathlib.Core.Path.{_≡_};
 ghost use mathlib.Core.List.{[], _∷_};
 ghost use Prim.Native.Nat.{_+_, _*_, _/_, _%_, _<_, _≤_};

@@ -20,7 +20,7 @@ pub const MARK: [u8; 3] = [0x53, 0x57, 0x42];
 // The high byte first.
 pub const VERSION: [u8; 2] = [0x00, 0x01];
 
-// Where the cells begin in an image.
+// Where the version and the cells begin in an image.
 pub const VERSION_AT: usize = 3;
 
 pub const NAME_AT: usize = 5;

@@ -132,8 +132,10 @@ pub fn store(state: ModuleState, validated: Validated) -> ModuleState
             Command::EraseAll => {
                 q.slots = [Slot::EMPTY; 40];
             }
-            // The reads.
-            _ => {}
+            Command::Read(_)
+            | Command::ReadIndexed(_, _)
+            | Command::ReadNv(_)
+            | Command::ReadNvIndexed(_, _) => {}
         },
     }
     q

@@ -1,4 +1,4 @@
--- Document 01, "The replay program": a line of upper-case hex pairs parted by one space, as it is read.
+-- Document 01, "Examples": a line of upper-case hex pairs parted by one space, as it is read.
 use Prim.Native.Nat.{ℕ, _+_, _-_, _*_}
 use mathlib.Core.Bool.{Bool, true, false, cond, _&&_, _||_}
 use mathlib.Core.List.{List, [], _∷_}

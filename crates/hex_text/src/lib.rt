@@ -1,4 +1,4 @@
-// Lines of upper-case hex pairs parted by one space, read into bytes: document 01, "The replay program".
+// Lines of upper-case hex pairs parted by one space, read into bytes: document 01, "Examples".
 ghost use mathlib.Core.Path.{_≡_};
 ghost use mathlib.Core.Bool.{true};
 ghost use Prim.Native.Nat.{_+_, _*_, _<_, _≤_};

@@ -1,7 +1,7 @@
 -- What a run of the program prints, as far as a proof can speak of it: its turns are what the contract of `turn` says, one after the
 -- other, and no read and no write fails. Four things lie outside it and are tested instead: that the loop in `replay` runs just these
--- turns, that `print` is handed the text, that `failed` is told only of a read or a write that did fail, and what the C library reads
--- and writes.
+-- turns; that `print` is handed the text, and tells whether it was written; that `read_input` hands on, and `refill` with it, what the
+-- read answered; and what the C library reads and writes.
 use Prim.Native.Nat.{ℕ}
 use mathlib.Core.Path.{_≡_}
 use mathlib.Core.Bool.{Bool, true, false, cond}

@@ -3,8 +3,8 @@
 use mathlib.Core.Path.{_≡_}
 use borrow.Author.Needs.{needs}
 use Rattle.cdi_image.specs.Image.{part, imageName, imageSlots}
-use Rattle.cdi_load.proofs.read.with_image.Statement.{statement}
-use Rattle.cdi_load.proofs.read.with_image.Tie as tie
+use Rattle.cdi_image_load.proofs.read.with_image.Statement.{statement}
+use Rattle.cdi_image_load.proofs.read.with_image.Tie as tie
 
 sub-name-in : tie.Need-sub-name-in
 sub-name-in c = search needs

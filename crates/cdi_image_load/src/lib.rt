@@ -3,7 +3,7 @@ mod read;
 
 ghost use mathlib.Core.Path.{_≡_};
 ghost use Rattle.cdi_image.specs.Image.{loaded};
-ghost use Rattle.cdi_load.specs.Load.{loadedAs};
+ghost use Rattle.cdi_image_load.specs.Load.{loadedAs};
 use cdi_image::IMAGE_SIZE;
 use cdi_state::ModuleState;
 use refusal::IMAGE_LENGTH;

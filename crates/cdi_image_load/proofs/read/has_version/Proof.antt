@@ -4,8 +4,8 @@ use mathlib.Core.Path.{refl}
 use mathlib.Core.Bool.{and-true}
 use borrow.Author.Needs.{needs}
 use Rattle.cdi_image.proofs.Places.{part-is-bytes}
-use Rattle.cdi_load.proofs.read.has_version.Statement.{statement}
-use Rattle.cdi_load.proofs.read.has_version.Tie as tie
+use Rattle.cdi_image_load.proofs.read.has_version.Statement.{statement}
+use Rattle.cdi_image_load.proofs.read.has_version.Tie as tie
 
 shared-slice-read-result : tie.Need-shared-slice-read-result
 shared-slice-read-result c = search needs

@@ -2,8 +2,8 @@
 -- Assumes nothing.
 use mathlib.Core.Path.{refl}
 use borrow.Author.Needs.{needs}
-use Rattle.cdi_load.proofs.read.settings_in.Statement.{statement}
-use Rattle.cdi_load.proofs.read.settings_in.Tie as tie
+use Rattle.cdi_image_load.proofs.read.settings_in.Statement.{statement}
+use Rattle.cdi_image_load.proofs.read.settings_in.Tie as tie
 
 sub-input-in : tie.Need-sub-input-in
 sub-input-in c = search needs

@@ -10,8 +10,8 @@ use lib.ListN.{length, take, drop, set, length-set}
 use lib.Seq.{take-suc-set, take-all, drop-drop, append-snoc}
 use Rattle.cdi_state.specs.declared.Slot.{Slot}
 use Rattle.cdi_image.specs.Image.{slotIn, slotsIn}
-use Rattle.cdi_load.proofs.read.slots_in.Statement.{statement}
-use Rattle.cdi_load.proofs.read.slots_in.Tie as tie
+use Rattle.cdi_image_load.proofs.read.slots_in.Statement.{statement}
+use Rattle.cdi_image_load.proofs.read.slots_in.Tie as tie
 
 one-slot-more : (slots : List Slot) (rows : List ℕ) (i : ℕ) → i < 40 → i < length slots →
     take i slots ++ slotsIn (40 - i) (drop (5 * i) rows) ≡
