@@ -18,9 +18,9 @@ import traffic
 ROOT = pathlib.Path(__file__).resolve().parent.parent
 REPLAY = ROOT / "target" / "bin" / "replay"
 
-Plan = collections.namedtuple("Plan", "megabytes rounds growth growth_rounds calls call_rounds")
-FULL = Plan(100, 7, growth=(1, 10, 50, 100, 200), growth_rounds=3, calls=300_000, call_rounds=31)
-QUICK = Plan(10, 3, growth=(1, 10), growth_rounds=1, calls=100_000, call_rounds=7)
+Plan = collections.namedtuple("Plan", "megabytes rounds growth calls call_rounds")
+FULL = Plan(100, 7, growth=(1, 10, 50, 100, 200), calls=300_000, call_rounds=31)
+QUICK = Plan(10, 3, growth=(1, 10), calls=100_000, call_rounds=7)
 
 COUNTED = 100  # calls under callgrind, which cost the same each
 
@@ -78,23 +78,26 @@ def digest(program, log):
     return sha.hexdigest()
 
 
-def check_same_output(folder, log):
-    if digest(REPLAY, log) != digest(folder / "peer", log):
-        raise Problem("replay and the C peer print different bytes")
-
-
 UNASKED = "C peer that never asks whether the state is valid"
 
 
+def programs(folder):
+    return {"replay": REPLAY, "C peer": folder / "peer", UNASKED: folder / "peer_unasked"}
+
+
+def check_same_output(folder, log):
+    if len({digest(program, log) for program in programs(folder).values()}) != 1:
+        raise Problem("replay and the C peers print different bytes")
+
+
 def throughput(folder, plan):
-    """Replay and the C peer in turn on the same typical lines."""
+    """Replay and the C peers in turn on the same typical lines."""
     log = folder / "log"
     traffic.write_typical(log, plan.megabytes)
     check_same_output(folder, log)
-    programs = {"replay": REPLAY, "C peer": folder / "peer", UNASKED: folder / "peer_unasked"}
-    speeds = {name: [] for name in programs}
+    speeds = {name: [] for name in programs(folder)}
     for _ in range(plan.rounds):
-        for name, program in programs.items():
+        for name, program in programs(folder).items():
             seconds, _ = timed(folder, program, log)
             speeds[name].append(plan.megabytes / seconds)
     log.unlink()
@@ -108,22 +111,30 @@ def throughput_text(plan, speeds):
     return (
         f"### Replay on {plan.megabytes} MB of typical lines, {plan.rounds} rounds in turn\n\n"
         "Of eight lines five are reads, two Writes and one a Program; one in 36 is refused. All print the same bytes. The C peer "
-        "looks at the whole state at each block, as document 01 says of the unit; replay looks at it once for each part of the "
-        "input that it reads, since it is proved that no step changes whether a state is valid.\n\n"
+        "looks at the whole state at each block, as document 01 says of the unit; replay looks at it once for each call of "
+        "`replay_lines`, which answers hundreds of lines, since it is proved that no step changes whether a state is valid. "
+        "What is printed goes to /dev/null.\n\n"
         + table(("Program", "MB/s, median", "least", "most"), *rows)
         + f"\nRatio of the medians, replay's to the C peer's: {ratio:.2f}, or {1 / ratio:.2f} times its time.\n"
     )
 
 
-def growth_row(folder, plan, name, write, megabytes):
-    log = folder / "log"
-    write(log, megabytes)
-    check_same_output(folder, log)
-    runs = [timed(folder, REPLAY, log) for _ in range(plan.growth_rounds)]
-    log.unlink()
-    seconds = statistics.median(taken for taken, _ in runs)
-    most = max(kilobytes for _, kilobytes in runs)
-    return name, megabytes, f"{seconds:.3f}", f"{megabytes / seconds:.0f}", most
+def growth_rows(folder, plan, name, write):
+    """One kind of log in each size, the sizes in turn."""
+    logs = {megabytes: folder / f"log_{megabytes}" for megabytes in plan.growth}
+    for megabytes, log in logs.items():
+        write(log, megabytes)
+        check_same_output(folder, log)
+    runs = {megabytes: [] for megabytes in logs}
+    for _ in range(plan.rounds):
+        for megabytes, log in logs.items():
+            runs[megabytes].append(timed(folder, REPLAY, log))
+    for log in logs.values():
+        log.unlink()
+    for megabytes, taken in runs.items():
+        seconds = statistics.median(each for each, _ in taken)
+        most = max(kilobytes for _, kilobytes in taken)
+        yield name, megabytes, f"{seconds:.3f}", f"{megabytes / seconds:.0f}", most
 
 
 def growth(folder, plan):
@@ -132,9 +143,11 @@ def growth(folder, plan):
         ("typical lines", traffic.write_typical),
         ("one line without a line feed", traffic.write_single_line),
     )
-    rows = [growth_row(folder, plan, *kind, megabytes) for kind in kinds for megabytes in plan.growth]
-    return f"### Replay's time and memory on growing input, medians of {plan.growth_rounds}\n\n" + table(
-        ("Input", "MB", "seconds", "MB/s", "peak resident, kB"), *rows
+    rows = [row for kind in kinds for row in growth_rows(folder, plan, *kind)]
+    return (
+        f"### Replay's time and memory on growing input, {plan.rounds} rounds in turn\n\n"
+        "Seconds are medians, the memory is the most of any round.\n\n"
+        + table(("Input", "MB", "seconds", "MB/s", "peak resident, kB"), *rows)
     )
 
 
@@ -207,6 +220,15 @@ def processor():
     return model[1] if model else platform.machine()
 
 
+def version():
+    """The commit, where this is a clone and git is there."""
+    try:
+        words = ["git", "describe", "--always", "--dirty=, changed"]
+        return f" at commit {output_of(words, cwd=ROOT).strip()}"
+    except (OSError, Problem):
+        return ""
+
+
 def conditions():
     """When and where this was measured."""
     day = datetime.date.today().isoformat()
@@ -214,7 +236,7 @@ def conditions():
     valgrind = output_of(["valgrind", "--version"]).strip()
     load = os.getloadavg()[0]
     return (
-        f"Measured on {day}: {processor()}, {os.cpu_count()} cores, load {load:.1f} before the start; "
+        f"Measured on {day}{version()}: {processor()}, {os.cpu_count()} cores, load {load:.1f} before the start; "
         f"the C peer by {gcc}, -O2, replay and the library as the toolchain builds them; {valgrind}. 1 MB is 1,000,000 bytes, "
         "1 kB is 1,024.\n"
     )
