@@ -151,18 +151,17 @@ const MODE_MAX: u8 = 4;
 
 const FLAGS_ZERO: u8 = 0xC8;
 
-// Whether a 00 is among the bytes of a name.
+// Whether a 00 is among the bytes of a name. None ends the loop early, as with the slots below.
 fn has_zero(name: [u8; 17]) -> bool
     ensures { λ r. ⌜ r ≡ hasZero name ⌝ }
 {
+    let mut found = false;
     let mut i: usize = 0;
     while i < NAME_LENGTH {
-        if name[i] == 0 {
-            return true;
-        }
+        found = found | (name[i] == 0);
         i += 1;
     }
-    false
+    found
 }
 
 // Whether an item accepts a byte as its value.

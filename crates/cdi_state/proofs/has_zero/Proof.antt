@@ -1,10 +1,10 @@
--- The bytes passed are not 00, so whether one is 00 is what the rest says.
+-- Whether a 00 is among the bytes is whether one is among those passed or among the rest.
 -- Assumes nothing.
 use Prim.Native.Nat.{_≤_, _-_}
 use mathlib.Core.Path.{_≡_, refl, sym, _∙_}
+use mathlib.Core.Bool.{_||_, or-false, or-assoc}
 use native.Mathlib.Omega.{arith}
 use borrow.Author.Needs.{needs}
-use borrow.Author.Tests.{eq-eqb, ne-eqb}
 use lib.ListN.{drop}
 use Rattle.logic.proofs.Rest.{one-more, nothing-left}
 use Rattle.cdi_state.specs.Valid.{hasZero}
@@ -12,23 +12,16 @@ use Rattle.cdi_state.proofs.has_zero.Statement.{statement}
 use Rattle.cdi_state.proofs.has_zero.Tie as tie
 
 abbrev Inv-loop : tie.InvT-loop
-Inv-loop name i₀ i = (i ≤ 17) × (hasZero name ≡ hasZero (drop i name))
+Inv-loop name found₀ i₀ found i = (i ≤ 17) × (hasZero name ≡ found || hasZero (drop i name))
 
 abbrev μ-loop : tie.MeasureT-loop
-μ-loop name i₀ i = 17 - i
+μ-loop name found₀ i₀ found i = 17 - i
 
 loop-holds : tie.Need-loop-holds Inv-loop μ-loop
 loop-holds c = (omega arith, refl)
 
-array-read-if1 : tie.Need-array-read-if1 Inv-loop μ-loop
-array-read-if1 c = search needs
-
-returns : tie.Need-returns Inv-loop μ-loop
-unfolding hasZero
-returns c =
-    let l = c .before .before .loop in
-    let name = c .before .before .before .args .t1 in
-    sym (l .inv .1 ∙ rw (one-more name (l .i) 0 (search needs)) (simp (eq-eqb _ _ (c .if1 .taken))))
+array-read-found : tie.Need-array-read-found Inv-loop μ-loop
+array-read-found c = search needs
 
 add-i : tie.Need-add-i Inv-loop μ-loop
 add-i c = search needs
@@ -39,26 +32,15 @@ loop-less c = search needs
 loop-again : tie.Need-loop-again Inv-loop μ-loop
 unfolding hasZero
 loop-again c =
-    let l = c .before .before .loop in
-    let name = c .before .before .before .args .t1 in
-    (search needs, l .inv .1 ∙ rw (one-more name (l .i) 0 (search needs)) (simp (ne-eqb _ _ (c .if1 .left))))
-
-returns-2 : tie.Need-returns-2 Inv-loop μ-loop
-unfolding hasZero
-returns-2 c =
     let l = c .before .loop in
-    sym (l .inv .1 ∙ rw (nothing-left (c .before .before .args .t1) (l .i) (search needs)))
+    let name = c .before .before .args .t1 in
+    (search needs, l .inv .1 ∙ rw (one-more name (l .i) 0 (search needs)) (sym (or-assoc (l .found) _ _)))
+
+returns : tie.Need-returns Inv-loop μ-loop
+unfolding hasZero
+returns c =
+    let l = c .before .loop in
+    sym (l .inv .1 ∙ rw (nothing-left (c .before .before .args .t1) (l .i) (search needs)) (or-false (l .found)))
 
 pub has-zero-spec : {M : Type 1} → statement M
-has-zero-spec =
-    tie.close
-    (tie.spec
-    Inv-loop
-    μ-loop
-    loop-holds
-    array-read-if1
-    returns
-    add-i
-    loop-less
-    loop-again
-    returns-2)
+has-zero-spec = tie.close (tie.spec Inv-loop μ-loop loop-holds array-read-found add-i loop-less loop-again returns)
