@@ -112,7 +112,7 @@ def throughput_text(plan, speeds):
         f"### Replay on {plan.megabytes} MB of typical lines, {plan.rounds} rounds in turn\n\n"
         "Of eight lines five are reads, two Writes and one a Program; one in 36 is refused. All print the same bytes. The C peer "
         "looks at the whole state at each block, as document 01 says of the unit; replay looks at it once for each call of "
-        "`replay_lines`, which answers hundreds of lines, since it is proved that no step changes whether a state is valid. "
+        "`replay_lines`, which answers some 1,700 of these lines, since it is proved that no step changes whether a state is valid. "
         "What is printed goes to /dev/null.\n\n"
         + table(("Program", "MB/s, median", "least", "most"), *rows)
         + f"\nRatio of the medians, replay's to the C peer's: {ratio:.2f}, or {1 / ratio:.2f} times its time.\n"

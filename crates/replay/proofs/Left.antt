@@ -1,8 +1,8 @@
 -- One turn: what `replay_lines` answers of the characters that are there, and what it leaves of them.
 -- Assumes nothing.
 use Prim.Native.Nat.{ℕ, _+_, _-_, _≤_}
-use mathlib.Core.Path.{_≡_, refl, sym, ap, _∙_}
-use mathlib.Core.Bool.{Bool, true, false, not, _&&_, false≢true}
+use mathlib.Core.Path.{_≡_, sym, ap, _∙_}
+use mathlib.Core.Bool.{Bool, true, false, false≢true}
 use mathlib.Core.List.{List}
 use native.Mathlib.Nat.{sub-zero}
 use native.Mathlib.Omega.{arith}
@@ -36,7 +36,7 @@ pub record Learnt (state : ModuleState) (input : List ℕ) (from end : ℕ) (out
   pub start-within : from + r .consumed ≤ end
   pub text-within : r .written ≤ length output
   pub state-after : r .state ≡ linesState state (answers state (part from end input))
-  pub printed : take (length (linesText state (answers state (part from end input)))) output ≡ linesText state (answers state (part from end input))
+  pub text : take (length (linesText state (answers state (part from end input)))) output ≡ linesText state (answers state (part from end input))
   pub left : part (from + r .consumed) end input ≡ leftBehind state (part from end input)
   pub full : ltb (length output - r .written) printedMax ≡ isFull state (part from end input)
 
@@ -62,27 +62,22 @@ learnt state input before after from end r ordered inside size same result buffe
       start-within = within;
       text-within = omega (arith, ap length placed, length-append text (drop (length text) before));
       state-after = ap (λ (p : Progress). p .state) told;
-      printed = ap (take (length text)) placed ∙ written-front before text;
+      text = ap (take (length text)) placed ∙ written-front before text;
       left = part-behind input from end (r .consumed) within inside ∙ ap (λ (n : ℕ). drop n chars) consumed;
       full = rw (same ∙ size, count);
     }
 
 -- what is read stands from the buffer's first place on
-pub refilled : (kept left buffer : List ℕ) (end : ℕ) (ended failed : Bool) → left ≡ kept
-    → Refilled (keptOf left) (take end buffer) ended failed → Refilled (keptOf kept) (part 0 end buffer) ended failed
-refilled kept left buffer end ended failed e h = rw (← e, sub-zero) h
-
--- a turn is the last where its text is printed and a line more would fit
-pub done-where : (printed full : Bool) → printed && not full ≡ not (not printed) && not full
-done-where true full = refl
-done-where false full = refl
+pub refilled : (kept left buffer : List ℕ) (end count : ℕ) (failed : Bool) → left ≡ kept
+    → Refilled (keptOf left) (take end buffer) count failed → Refilled (keptOf kept) (part 0 end buffer) count failed
+refilled kept left buffer end count failed e h = rw (← e, sub-zero) h
 
 -- where a line more would fit, only a line is left that is not finished
 pub not-finished : (state : ModuleState) (chars : List ℕ) → isFull state chars ≡ false → leftBehind state chars ≡ unfinished chars
 not-finished state chars e = unfinished-left state chars bufferSize (ltb-false (bufferSize - length (linesText state (answers state chars))) printedMax e)
 
 -- after the last turn nothing is left but that, and the input has ended
-pub at-last : (state : ModuleState) (chars rest : List ℕ) (ended endedAfter : Bool) → Stays state chars ended rest endedAfter true false
+pub at-last : (state : ModuleState) (chars rest : List ℕ) (ended endedAfter : Bool) → Stays state chars ended rest endedAfter true true false
     → (ended ≡ true) × (leftBehind state chars ≡ unfinished chars)
 at-last state chars rest ended endedAfter stays =
     by-cases (isFull state chars) (λ t. absurd (false≢true (rw t at (sym (stays .is-done))))) (λ f. (rw f at (stays .why), not-finished state chars f))

@@ -4,12 +4,10 @@
 // `cdi_replay` has the text for the lines of an input. The program reads the input piece by piece, keeps what it has to of a line
 // whose end is still to be read, and prints what is answered before it reads on.
 ghost use mathlib.Core.Path.{_≡_};
-ghost use mathlib.Core.Bool.{true};
-ghost use Prim.Native.Nat.{_-_, _<_, _≤_};
+ghost use Prim.Native.Nat.{_+_, _<_, _≤_};
 ghost use lib.ListN.{length, take, drop};
 ghost use Rattle.cdi_replay.specs.Session.{keptMax, keptOf};
-ghost use Rattle.libc.specs.Io.{Moved};
-ghost use Rattle.replay.specs.Program.{bufferSize, part, isEnd, isFailed, charsGiven, charsAfter, Refilled, Turned};
+ghost use Rattle.replay.specs.Program.{bufferSize, part, isEnd, charsAfter, Refilled, Turned};
 use cdi_replay::PRINTED_MAX;
 use cdi_state::ModuleState;
 use hex_text::LINE_FEED;
@@ -21,21 +19,29 @@ use libc::STDOUT_FILENO;
 // the rest of it need not be kept.
 const KEPT_MAX: usize = LINE_MAX + 1;
 
-// What of the input buffer holds characters, whether the input has ended behind them, and whether it cannot be read.
-struct Filled {
-    end: usize,
-    ended: bool,
+// What a read answered: how many bytes it gave, and whether it failed. Where it gave none and did not fail, the input has ended.
+struct Piece {
+    count: usize,
     failed: bool,
 }
 
-// What goes from one turn to the next: the state, which part of the input buffer is not answered, and whether the input has ended
-// behind it. No turn follows where all is answered, or where a read or a write failed.
+// What of the input buffer holds characters once a read has answered, and what that was.
+struct Filled {
+    end: usize,
+    count: usize,
+    failed: bool,
+}
+
+// What goes from one turn to the next: the state, which part of the input buffer is not answered, whether the input has ended behind
+// it, and whether all is answered. Beside it, what the print and the read of the turn answered: no turn follows where one failed.
 struct Session {
     state: ModuleState,
     start: usize,
     end: usize,
     ended: bool,
     done: bool,
+    printed: bool,
+    count: usize,
     failed: bool,
 }
 
@@ -53,64 +59,52 @@ fn keep(input: &mut [u8], from: usize, end: usize) -> usize
     i
 }
 
-// Reads once, behind the first `kept` bytes of `input`, and returns what the read answered: how many bytes it gave, 0 at the end of
-// the input, or -1. Where it failed, standard error says why.
-fn read_input(input: &mut [u8], kept: usize) -> isize
+// Reads once, behind the first `kept` bytes of `input`, and returns what the read answered. Where it failed, standard error says why.
+fn read_input(input: &mut [u8], kept: usize) -> Piece
     requires { ⌜ kept ≤ length (now input) ⌝ }
-    ensures { λ r. ⌜ Moved (length (now (input .entry)) - kept) r × (take kept (now (input .exit)) ≡ take kept (now (input .entry))) ⌝ }
+    ensures { λ r. ⌜ (kept + r .count ≤ length (now (input .entry))) × (take kept (now (input .exit)) ≡ take kept (now (input .entry))) ⌝ }
 {
-    let got = libc::read(STDIN_FILENO, &mut input[kept..]);
+    let part = &mut input[kept..];
+    let got = libc::read(STDIN_FILENO, part);
+    let count = io::count(got, part);
     if got < 0 {
         os::fail(b"replay: standard input cannot be read");
     }
-    got
+    Piece {
+        count,
+        failed: got < 0,
+    }
 }
 
-// What there is once a read answered `got`, behind the first `kept` bytes. Where the input has ended, a line feed ends the line.
-fn take_in(input: &mut [u8], kept: usize, got: isize) -> Filled
-    requires { ⌜ (kept < length (now input)) × Moved (length (now input) - kept) got ⌝ }
-    ensures { λ r. ⌜ (r .end ≤ length (now (input .entry))) × (r .ended ≡ isEnd got) × (r .failed ≡ isFailed got)
-        × (take (r .end) (now (input .exit)) ≡ charsAfter (take kept (now (input .entry))) (charsGiven got (drop kept (now (input .entry)))) (isEnd got)) ⌝ }
+// How many characters there are once a read answered, behind the first `kept` of them. Where the input has ended, a line feed ends
+// the line.
+fn take_in(input: &mut [u8], kept: usize, count: usize, failed: bool) -> usize
+    requires { ⌜ (kept < length (now input)) × (kept + count ≤ length (now input)) ⌝ }
+    ensures { λ r. ⌜ (r ≤ length (now (input .entry)))
+        × (take r (now (input .exit)) ≡ charsAfter (take kept (now (input .entry))) (take count (drop kept (now (input .entry)))) (isEnd count failed)) ⌝ }
 {
-    if got < 0 {
-        return Filled {
-            end: kept,
-            ended: false,
-            failed: true,
-        };
-    }
-    let count = io::count(got, &input[kept..]);
-    if count > 0 {
-        return Filled {
-            end: kept + count,
-            ended: false,
-            failed: false,
-        };
+    if failed | (count > 0) {
+        return kept + count;
     }
     if kept == 0 {
-        return Filled {
-            end: 0,
-            ended: true,
-            failed: false,
-        };
+        return 0;
     }
     input[kept] = LINE_FEED;
-    Filled {
-        end: kept + 1,
-        ended: true,
-        failed: false,
-    }
+    kept + 1
 }
 
 // Reads on behind input[from..end], a line whose end is still to be read.
 fn refill(input: &mut [u8], from: usize, end: usize) -> Filled
     requires { ⌜ (length (now input) ≡ bufferSize) × (from ≤ end) × (end ≤ bufferSize) ⌝ }
     ensures { λ r. ⌜ (r .end ≤ bufferSize)
-        × Refilled (keptOf (part from end (now (input .entry)))) (take (r .end) (now (input .exit))) (r .ended) (r .failed) ⌝ }
+        × Refilled (keptOf (part from end (now (input .entry)))) (take (r .end) (now (input .exit))) (r .count) (r .failed) ⌝ }
 {
     let kept = keep(input, from, end);
-    let got = read_input(input, kept);
-    take_in(input, kept, got)
+    let piece = read_input(input, kept);
+    let count = piece.count;
+    let failed = piece.failed;
+    let end = take_in(input, kept, count, failed);
+    Filled { end, count, failed }
 }
 
 // Prints a text and returns whether it could. Where it could not, standard error says why.
@@ -129,7 +123,7 @@ fn turn(session: Session, input: &mut [u8], output: &mut [u8]) -> Session
         × (session .start ≤ session .end) × (session .end ≤ bufferSize) ⌝ }
     ensures { λ r. ⌜ (r .start ≤ r .end) × (r .end ≤ bufferSize)
         × Turned (session .state) (part (session .start) (session .end) (now (input .entry))) (session .ended)
-        (now (output .exit)) (r .state) (part (r .start) (r .end) (now (input .exit))) (r .ended) (r .done) (r .failed) ⌝ }
+        (now (output .exit)) (r .state) (part (r .start) (r .end) (now (input .exit))) (r .ended) (r .done) (r .printed) (r .count) (r .failed) ⌝ }
 {
     let before = session.state;
     let from = session.start;
@@ -149,17 +143,23 @@ fn turn(session: Session, input: &mut [u8], output: &mut [u8]) -> Session
             end,
             ended,
             done: printed & !full,
-            failed: !printed,
+            printed,
+            count: 0,
+            failed: false,
         };
     }
     let filled = refill(input, start, end);
+    let count = filled.count;
+    let failed = filled.failed;
     Session {
         state,
         start: 0,
         end: filled.end,
-        ended: filled.ended,
+        ended: !(failed | (count > 0)),
         done: false,
-        failed: filled.failed,
+        printed,
+        count,
+        failed,
     }
 }
 
@@ -173,14 +173,17 @@ fn replay(input: &mut [u8], output: &mut [u8])
         end: 0,
         ended: false,
         done: false,
+        printed: true,
+        count: 0,
         failed: false,
     };
     let mut turns = u64::MAX;
     while turns > 0 {
         session = turn(session, input, output);
         let done = session.done;
+        let printed = session.printed;
         let failed = session.failed;
-        if done | failed {
+        if done | !printed | failed {
             return;
         }
         turns -= 1;

@@ -1,10 +1,7 @@
--- `replay::refill` meets its contract: what the read gave stands behind what was kept, and a line feed ends a last line that lacks it.
+-- `replay::refill` meets its contract: what the read gave stands behind what was kept.
 -- Assumes nothing.
 use native.Mathlib.Omega.{arith}
 use borrow.Author.Needs.{needs}
-use mir.Facts.{toZ-ofZ}
-use mir.Syntax.{w64}
-use mir.Val.{toZ, ofZ}
 use Rattle.replay.proofs.Kept.{refilled-after}
 use Rattle.replay.proofs.refill.Statement.{statement}
 use Rattle.replay.proofs.refill.Tie as tie
@@ -20,10 +17,8 @@ take-in-requires c κs =
     let read = c .before .before .before .read-input in
     let k = c .before .before .before .before .before .before .before in
     let keep = k .keep in
-    let z = k .before .before .before in (
-      omega (arith, keep .ensures .0, keep .kept .0, read .kept .0, z .pre .0),
-      rw (toZ-ofZ {w = w64} {z = read .result} (search needs), read .kept .0) (read .ensures .0),
-    )
+    let z = k .before .before .before in
+    (omega (arith, keep .ensures .0, keep .kept .0, read .kept .0, z .pre .0), omega (arith, read .ensures .0, read .kept .0))
 
 same-length : tie.Need-same-length
 same-length c = search needs
@@ -36,8 +31,8 @@ returns c =
     let keep = k .keep in
     let z = k .before .before .before in (
       omega (arith, take-in .ensures .0, keep .kept .0, read .kept .0, z .pre .0),
-      refilled-after _ (keep .last .0) (read .last .0) _ (keep .result) (toZ w64 (ofZ w64 (read .result))) _ _ (keep .ensures .2) (read .ensures .1)
-          (take-in .ensures .1) (take-in .ensures .2) (take-in .ensures .3),
+      refilled-after _ (keep .last .0) (read .last .0) _ (keep .result) (read .result .count) (read .result .failed) (keep .ensures .2) (read .ensures .1)
+          (omega (arith, read .ensures .0, read .kept .0)) (take-in .ensures .1),
     )
 
 pub refill-spec : {M : Type 1} → statement M

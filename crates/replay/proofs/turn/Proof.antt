@@ -7,11 +7,12 @@ use mathlib.Core.Bool.{not, _||_}
 use mathlib.Core.Logic.{inl, inr}
 use native.Mathlib.Omega.{arith}
 use borrow.Author.Needs.{needs}
+use borrow.Author.Tests.{not-false}
 use lib.Dec.{ltb}
 use lib.ListN.{length}
 use Rattle.logic.proofs.Choice.{neither}
 use Rattle.cdi_replay.specs.Answered.{printedMax}
-use Rattle.replay.proofs.Left.{Learnt, learnt, refilled, done-where}
+use Rattle.replay.proofs.Left.{Learnt, learnt, refilled}
 use Rattle.replay.proofs.turn.Statement.{statement}
 use Rattle.replay.proofs.turn.Tie as tie
 
@@ -70,13 +71,14 @@ returns c =
       k .start-within,
       search needs,
       record {
-        printed = k .printed;
+        text = k .text;
         state-after = k .state-after;
         left = inl (record {
           same = k .left;
           same-end = refl;
           why = rw (← k .full) (c .if1 .taken);
-          is-done = rw (← k .full) (done-where (c .before .print .result) (ltb room printedMax));
+          is-done = rw (← k .full) refl;
+          not-failed = refl;
         });
       },
     )
@@ -98,16 +100,18 @@ returns-2 c =
     let refill = c .before .before .refill in
     let room = length (answers .last .1 .1 .0) - answers .result .written in
     let test = neither (not (c .before .before .before .before .before .print .result) || ltb room printedMax) (s .args .session .ended) (c .before .before .before .before .if1 .left) in
-    let full = neither (not (c .before .before .before .before .before .print .result)) (ltb room printedMax) (test .0) .1 in (
+    let printed = neither (not (c .before .before .before .before .before .print .result)) (ltb room printedMax) (test .0) in (
       search needs,
       refill .ensures .0,
       record {
-        printed = k .printed;
+        text = k .text;
         state-after = k .state-after;
         left = inr (record {
-          not-full = rw (← k .full) full;
+          is-printed = not-false (c .before .before .before .before .before .print .result) (printed .0);
+          not-full = rw (← k .full) (printed .1);
           not-ended = test .1;
-          refilled = refilled _ _ (refill .last .0) (refill .result .end) (refill .result .ended) (refill .result .failed) (k .left) (refill .ensures .1);
+          refilled = refilled _ _ (refill .last .0) (refill .result .end) (refill .result .count) (refill .result .failed) (k .left) (refill .ensures .1);
+          end-told = refl;
           not-done = refl;
         });
       },
