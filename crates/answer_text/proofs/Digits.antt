@@ -7,9 +7,10 @@ use native.Mathlib.Omega.{arith}
 use borrow.Author.Tests.{le-leb, lt-leb, ltb-true, ltb-false, eqb-true}
 use lib.Dec.{ltb, eqb}
 use lib.ListN.{getD}
+use Rattle.logic.specs.Lists.{allBelow}
+use Rattle.logic.proofs.Below.{all-at}
 use Rattle.logic.proofs.Choice.{by-cases}
 use Rattle.hex_text.specs.Hex.{isDigit, digitValue}
-use Rattle.hex_text.proofs.Digits.{below}
 use Rattle.answer_text.specs.Text.{digitOf, allDigits}
 
 pub digit-back : (n : ℕ) → n < 16 → (isDigit (digitOf n) ≡ true) × (digitValue (digitOf n) ≡ n)
@@ -19,4 +20,5 @@ digit-back n h =
     (λ f. let l = ltb-false n 10 f in simp (f, le-leb 48 (n + 55) (omega arith), lt-leb (n + 55) 57 (omega arith), le-leb 65 (n + 55) (omega arith), le-leb (n + 55) 70 (omega arith)) (refl, omega arith))
 
 pub digits-right : (n : ℕ) → n < 16 → getD allDigits n 0 ≡ digitOf n
-digits-right n h = eqb-true (getD allDigits n 0) (digitOf n) (below (λ (k : ℕ). eqb (getD allDigits k 0) (digitOf k)) 16 refl n h)
+unfolding allBelow
+digits-right n h = eqb-true (getD allDigits n 0) (digitOf n) (all-at 16 (λ (k : ℕ). eqb (getD allDigits k 0) (digitOf k)) refl n h)

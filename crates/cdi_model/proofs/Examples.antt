@@ -6,6 +6,7 @@ use mathlib.Core.Bool.{Bool, true, cond}
 use mathlib.Core.List.{List, [], _∷_, _++_, map, map-congr-left}
 use lib.Dec.{ltb}
 use lib.ListN.{length, replicate}
+use Rattle.logic.specs.Lists.{allBelow}
 use Rattle.logic.specs.Written.{written}
 use Rattle.refusal.specs.Refusal.{invalid, responseBufferShort}
 use Rattle.cdi_item.specs.Items.{items, itemIn, itemOf}
@@ -13,13 +14,13 @@ use Rattle.cdi_item.specs.Values.{acceptedValue}
 use Rattle.cdi_frame.specs.Frame.{wakes, lengthAt, readFrame}
 use Rattle.cdi_command.specs.Command.{select, commandOn, validateItem, isServed, isHeadLengthRight, validatePayload}
 use Rattle.sequence.specs.Model.{next, results}
-use Rattle.cdi_model.specs.Cells.{nv, working, txPower, controlSource, messageSelect, interruptMask, setting, input, slot, address, Single, name, firmware, serial, lines, rssi, ladj, events, flags, hardwarePower, hardwareLineMask, hardwareLatchMask, Cell, stored, single, same}
+use Rattle.cdi_model.specs.Cells.{nv, working, txPower, controlSource, messageSelect, interruptMask, setting, input, slot, Single, name, firmware, serial, lines, rssi, ladj, events, flags, hardwarePower, hardwareLineMask, hardwareLatchMask, Cell, stored, single, same}
 use Rattle.cdi_model.specs.Values.{allZero, hasZero, upToZero}
 use Rattle.cdi_model.specs.Factory.{factoryCells}
 use Rattle.cdi_model.specs.Step.{Step, powerUp, command, StepResult, poweredUp, responded}
 use Rattle.cdi_model.specs.Action.{actionOf}
 use Rattle.cdi_model.specs.Table.{Decision, refuse, executePowerUp, stores}
-use Rattle.cdi_model.specs.Model.{Cells, allBelow, isValid, responseBufferMin, decide, decidePayload, decideBlock, gives, valueRead, responsePayload, resultOf, model}
+use Rattle.cdi_model.specs.Model.{Cells, isValid, responseBufferMin, decide, decidePayload, decideBlock, gives, valueRead, responsePayload, resultOf, model}
 use Rattle.cdi_model.proofs.Lawful.{validity-kept}
 
 -- ---- cells

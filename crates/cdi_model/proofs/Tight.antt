@@ -8,7 +8,8 @@ use mathlib.Core.List.{List, [], _∷_, map, flatMap}
 use borrow.Author.Tests.{ltb-true, eq-eqb}
 use lib.Dec.{eqb}
 use lib.ListN.{length}
-use Rattle.logic.specs.Lists.{sameBytes}
+use Rattle.logic.specs.Lists.{allBelow, sameBytes}
+use Rattle.logic.proofs.Below.{all-at}
 use Rattle.logic.proofs.Choice.{choice}
 use Rattle.refusal.specs.Refusal.{valueNotAccepted}
 use Rattle.cdi_item.specs.Items.{items, itemIn, itemOf}
@@ -18,11 +19,11 @@ use Rattle.cdi_model.specs.Cells.{nv, working, lineMask, latchMask, txPo
 use Rattle.cdi_model.specs.Values.{allZero, hasZero, upToZero}
 use Rattle.cdi_model.specs.Action.{Action, write, program, actionOf}
 use Rattle.cdi_model.specs.Table.{Decision, refuse, execute, executePowerUp, isAccepted, reads, stores}
-use Rattle.cdi_model.specs.Model.{Cells, allBelow, isValid, decidePayload, gives, valueRead, responsePayload}
+use Rattle.cdi_model.specs.Model.{Cells, isValid, decidePayload, gives, valueRead, responsePayload}
 use Rattle.cdi_model.specs.Tight.{all, any, those, everyCell, isIn, allApart, samplePayloads, sampleDecisions, stateOf, base, hardwareShown, workingShown, other, differIn, changed, responseOf, differs, storedCells, matters, changes, isTight}
 use Rattle.cdi_model.proofs.Cells.{same-eq}
 use Rattle.cdi_model.proofs.Checked.{CheckedDecision, payload-checked}
-use Rattle.cdi_model.proofs.Validity.{all-at, takes, each-input, valid-takes, takes-valid}
+use Rattle.cdi_model.proofs.Validity.{takes, each-input, valid-takes, takes-valid}
 use Rattle.cdi_model.proofs.Lawful.{AgreeOn, value-framed, gives-framed}
 
 -- ---- the list of cells is 01's: 68 cells, no one twice, ...

@@ -1,31 +1,20 @@
 -- A state is valid where every cell holds a value that it accepts, so validity can be kept cell by cell.
 -- Assumes nothing.
-use Prim.Native.Nat.{ℕ, zero, suc, _<_}
-use mathlib.Core.Path.{_≡_, refl, sym, subst, ap, _∙_}
+use Prim.Native.Nat.{ℕ}
+use mathlib.Core.Path.{_≡_, refl, sym, subst}
 use mathlib.Core.Logic.{_↔_}
 use mathlib.Core.Bool.{Bool, true, cond, _&&_, and-eq-true-iff}
 use mathlib.Core.List.{List}
 use native.Mathlib.Omega.{arith}
 use borrow.Author.Tests.{ltb-true, lt-ltb, leb-true, eqb-true, eqb-false}
 use lib.Dec.{eqb, leb}
+use Rattle.logic.specs.Lists.{allBelow}
+use Rattle.logic.proofs.Below.{all-at, all-of}
 use Rattle.logic.proofs.Choice.{choice, by-cases}
 use Rattle.cdi_model.specs.Cells.{Copy, nv, working, lineMask, latchMask, txPower, controlSource, messageSelect, interruptMask, Key, setting, input, slot, address, name, flags, Cell, stored, single, hasWorking, isKey, isCell, sameSingle}
 use Rattle.cdi_model.specs.Values.{byteOf, accepted, acceptedFlags, hasZero}
-use Rattle.cdi_model.specs.Model.{Cells, allBelow, holdsAccepted, validCopy, isValid}
+use Rattle.cdi_model.specs.Model.{Cells, holdsAccepted, validCopy, isValid}
 use Rattle.cdi_model.proofs.Cells.{single-eq}
-
--- a test that holds below n holds at each number below n, and the other way round
-pub all-at : (n : ℕ) (ok : ℕ → Bool) → allBelow n ok ≡ true → (i : ℕ) → i < n → ok i ≡ true
-unfolding allBelow
-all-at zero ok e i h = absurd (omega arith)
-all-at (suc n) ok e i h =
-    let p = and-eq-true-iff (ok n) (allBelow n ok) .0 e in
-    by-cases (eqb i n) (λ q. ap ok (eqb-true i n q) ∙ p .0) (λ q. all-at n ok (p .1) i (omega (arith, eqb-false i n q)))
-
-all-of : (n : ℕ) (ok : ℕ → Bool) → ((i : ℕ) → i < n → ok i ≡ true) → allBelow n ok ≡ true
-unfolding allBelow
-all-of zero ok h = refl
-all-of (suc n) ok h = and-eq-true-iff (ok n) (allBelow n ok) .1 (h n (omega arith), all-of n ok (λ i p. h i (omega arith)))
 
 -- the value is one that the cell accepts
 abbrev pub takes : Cell → List ℕ → Bool

@@ -4,6 +4,7 @@ use Prim.Native.Nat.{ℕ, _+_}
 use mathlib.Core.Path.{refl}
 use mathlib.Core.List.{List, [], _∷_}
 use lib.ListN.{length, replicate}
+use Rattle.logic.specs.Lists.{allBelow}
 use Rattle.cdi_item.specs.Items.{items, itemIn, itemOf}
 use Rattle.cdi_item.specs.Values.{acceptedValue}
 use Rattle.cdi_frame.specs.Frame.{wakes, lengthAt, readFrame}
@@ -14,7 +15,7 @@ use Rattle.cdi_model.specs.Values.{allZero, hasZero}
 use Rattle.cdi_model.specs.Step.{Step, powerUp, command}
 use Rattle.cdi_model.specs.Action.{read, readNv, actionOf}
 use Rattle.cdi_model.specs.Table.{stores}
-use Rattle.cdi_model.specs.Model.{model, allBelow, isValid, decide, decidePayload, decideBlock, gives}
+use Rattle.cdi_model.specs.Model.{model, isValid, decide, decidePayload, decideBlock, gives}
 use Rattle.cdi_model.proofs.Apart.{refused-first, two-reads, two-writes, status-and-write, status-not-apart}
 use Rattle.cdi_model.specs.Factory.{factoryCells}
 

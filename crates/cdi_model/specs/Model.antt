@@ -1,10 +1,11 @@
 -- Document 01, "The book": what the reference model decides on a step, what the step gives the cells that it stores in, and its
 -- result. The frame, the item list, the validation of a payload and a frame's layout are those of the crates below.
-use Prim.Native.Nat.{ℕ, zero, suc}
+use Prim.Native.Nat.{ℕ}
 use mathlib.Core.List.{List, [], _∷_, _++_}
-use mathlib.Core.Bool.{Bool, true, cond, _&&_}
+use mathlib.Core.Bool.{Bool, cond, _&&_}
 use lib.Dec.{ltb}
 use lib.ListN.{length, drop}
+use Rattle.logic.specs.Lists.{allBelow}
 use Rattle.logic.specs.Written.{written}
 use Rattle.refusal.specs.Refusal.{Result, accepted as acceptedAs, refused, none, invalid, responseBufferShort}
 use Rattle.cdi_frame.specs.declared.Span.{Span}
@@ -23,10 +24,6 @@ abbrev pub Cells : Type 0
 Cells = Cell → List ℕ
 
 -- ---- validity
-unfoldable pub allBelow : ℕ → (ℕ → Bool) → Bool
-allBelow zero ok = true
-allBelow (suc n) ok = ok n && allBelow n ok
-
 abbrev pub holdsAccepted : Cells → Copy → Key → Bool
 holdsAccepted s copy k = accepted k (s (stored copy k))
 

@@ -6,6 +6,7 @@ use mathlib.Core.List.{List, [], _∷_}
 use mathlib.Core.Bool.{Bool, true, false, _&&_, _||_}
 use lib.Dec.{eqb}
 use lib.ListN.{length, getD, take, drop}
+use Rattle.logic.specs.Lists.{allBelow}
 use Rattle.cdi_item.specs.Values.{acceptedValue}
 use Rattle.cdi_state.specs.declared.Slot.{Slot}
 use Rattle.cdi_state.specs.declared.ModuleState.{ModuleState}
@@ -13,7 +14,7 @@ use Rattle.cdi_state.specs.State.{slotBytes, noSlot, ArrayLengths}
 use Rattle.cdi_state.specs.Valid.{hasZero, validSettings, validSlot, validSlots, isValid}
 use Rattle.cdi_model.specs.Cells.{nv, working}
 use Rattle.cdi_model.specs.Values.{acceptedSlot, hasZero as hasZeroCell}
-use Rattle.cdi_model.specs.Model.{allBelow, validCopy, isValid as isValidCells}
+use Rattle.cdi_model.specs.Model.{validCopy, isValid as isValidCells}
 use Rattle.cdi_model.proofs.Values.{zeros-agree}
 use Rattle.cdi_module.specs.Machine.{cells}
 

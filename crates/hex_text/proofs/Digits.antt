@@ -1,15 +1,17 @@
 -- Laws of digits: what a digit is, that its value is below 16, and that the code's tables of bits and of values are right at each
 -- entry, which one computed test for each shows.
 -- Assumes nothing.
-use Prim.Native.Nat.{ℕ, zero, suc, _-_, _/_, _%_, _^_, _<_, _≤_}
+use Prim.Native.Nat.{ℕ, _-_, _/_, _%_, _^_, _<_, _≤_}
 use mathlib.Core.Path.{_≡_, refl}
 use mathlib.Core.Bool.{Bool, true, _&&_, _||_, not, Bool·beq, and-eq-true-iff}
 use mathlib.Core.List.{List, [], _∷_}
 use mathlib.Core.Logic.{_⊎_, inl, inr, ⊎-elim}
 use native.Mathlib.Omega.{arith}
-use borrow.Author.Tests.{le-leb, lt-leb, leb-true, eqb-true, eqb-false}
+use borrow.Author.Tests.{le-leb, lt-leb, leb-true, eqb-true}
 use lib.Dec.{leb, eqb}
 use lib.ListN.{getD}
+use Rattle.logic.specs.Lists.{allBelow}
+use Rattle.logic.proofs.Below.{all-at}
 use Rattle.logic.proofs.Choice.{by-cases, same, implied}
 use Rattle.hex_text.specs.Hex.{isDigit, isPair, digitValue, pairValue}
 
@@ -32,23 +34,13 @@ pair-small high low e =
     let p = pair-digits high low e in
     omega (arith, digit-small high (p .0), digit-small low (p .1))
 
--- a test passes at each number below n
-abbrev pub every : (ℕ → Bool) → ℕ → Bool
-every f zero = true
-every f (suc n) = f n && every f n
-
-pub below : (f : ℕ → Bool) (n : ℕ) → every f n ≡ true → (k : ℕ) → k < n → f k ≡ true
-below f zero e k h = absurd (omega arith)
-below f (suc n) e k h =
-    let p = and-eq-true-iff (f n) (every f n) .0 e in
-    by-cases (eqb k n) (λ t. rw (eqb-true k n t) (p .0)) (λ g. below f n (p .1) k (omega (arith, eqb-false k n g)))
-
 -- the bits of the digits
 abbrev bitSet : ℕ → Bool
 bitSet c = (leb 48 c && leb c 70) && eqb (0x03FF007E / 2 ^ (c % 32) % 2) 1
 
 pub bits-right : (c : ℕ) → c < 256 → bitSet c ≡ isDigit c
-bits-right c h = same (bitSet c) (isDigit c) (below (λ (k : ℕ). Bool·beq (bitSet k) (isDigit k)) 256 refl c h)
+unfolding allBelow
+bits-right c h = same (bitSet c) (isDigit c) (all-at 256 (λ (k : ℕ). Bool·beq (bitSet k) (isDigit k)) refl c h)
 
 -- the values of the digits, from `0` on
 abbrev pub allValues : List ℕ
@@ -61,7 +53,7 @@ valueRight : ℕ → Bool
 valueRight c = eqb (getD allValues (c - 48) 0) (digitValue c)
 
 pub values-right : (c : ℕ) → isDigit c ≡ true → getD allValues (c - 48) 0 ≡ digitValue c
-unfolding valueRight
+unfolding valueRight allBelow
 values-right c e =
     eqb-true (getD allValues (c - 48) 0) (digitValue c)
-    (implied (isDigit c) (valueRight c) (below (λ (k : ℕ). not (isDigit k) || valueRight k) 71 refl c (digit-place c e .1)) e)
+    (implied (isDigit c) (valueRight c) (all-at 71 (λ (k : ℕ). not (isDigit k) || valueRight k) refl c (digit-place c e .1)) e)

@@ -1,4 +1,4 @@
--- Lists of numbers.
+-- Numbers below one, and lists of numbers.
 use Prim.Native.Nat.{ℕ, zero, suc}
 use mathlib.Core.List.{List, [], _∷_}
 use mathlib.Core.Bool.{Bool, true, false, _&&_}
@@ -8,6 +8,11 @@ use lib.Dec.{eqb}
 abbrev pub below : ℕ → List ℕ → List ℕ
 below zero l = l
 below (suc n) l = below n (n ∷ l)
+
+-- whether a test passes at each number below n
+unfoldable pub allBelow : ℕ → (ℕ → Bool) → Bool
+allBelow zero ok = true
+allBelow (suc n) ok = ok n && allBelow n ok
 
 -- whether two lists are the same
 abbrev pub sameBytes : List ℕ → List ℕ → Bool
