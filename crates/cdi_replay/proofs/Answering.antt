@@ -14,9 +14,10 @@ use Rattle.bytes.specs.Bytes.{indexOf}
 use Rattle.hex_text.specs.Hex.{hexLine, lineFeed}
 use Rattle.answer_text.specs.Text.{printed}
 use Rattle.cdi_state.specs.declared.ModuleState.{ModuleState}
-use Rattle.cdi_replay.specs.Replay.{lines, lineText, lineState, linesText, linesState}
-use Rattle.cdi_replay.specs.Answered.{printedMax, Prints, wholePart, withLineFeeds, fitting, answered, progress}
-use Rattle.cdi_replay.proofs.Lines.{line-found, none-found, first-whole-line, no-whole-line}
+use Rattle.cdi_log.specs.Replay.{lines, lineText, lineState, linesText, linesState}
+use Rattle.cdi_log.specs.Answered.{printedMax, wholePart, withLineFeeds, fitting, answered}
+use Rattle.cdi_replay.specs.Progress.{Prints, progress}
+use Rattle.cdi_log.proofs.Lines.{line-found, none-found, first-whole-line, no-whole-line}
 
 -- ---- the buffer
 -- what is left of a buffer has room for a line

@@ -12,8 +12,9 @@ use Rattle.answer_text.specs.Text.{hexText, printed}
 use Rattle.answer_text.proofs.Text.{hexText-length}
 use Rattle.cdi_model.specs.Step.{StepResult}
 use Rattle.cdi_module.specs.Module.{responseMax}
-use Rattle.cdi_replay.specs.Replay.{resultText}
-use Rattle.cdi_replay.specs.Answered.{printedMax, Prints}
+use Rattle.cdi_log.specs.Replay.{resultText}
+use Rattle.cdi_log.specs.Answered.{printedMax}
+use Rattle.cdi_replay.specs.Progress.{Prints}
 
 -- a line that is short enough is written where there is room for the longest
 pub prints : (text before after : List ℕ) (count : ℕ) → length (printed text) ≤ printedMax → printedMax ≤ length before

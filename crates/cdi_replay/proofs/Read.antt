@@ -14,8 +14,8 @@ use Rattle.hex_text.specs.declared.HexLine.{HexLine}
 use Rattle.hex_text.specs.declared.HexLine.the-variants.{NoRoom}
 use Rattle.hex_text.specs.Hex.{Line, block, notHex, hexLine, lineFeed, lineFrom, lineEnd, lineAnswer, lineWritten}
 use Rattle.hex_text.proofs.Laws.{room-enough}
-use Rattle.cdi_replay.specs.Answered.{blockMax, lineRead, ReadWithin}
-use Rattle.cdi_replay.proofs.Lines.{line-within}
+use Rattle.cdi_replay.specs.Progress.{blockMax, lineRead, ReadWithin}
+use Rattle.cdi_log.proofs.Lines.{line-within}
 
 held : (line : Line) (buffer : List ℕ) → (lineAnswer line (length buffer) ≡ NoRoom → ⊥)
     → (lineRead (lineAnswer line (length buffer)) (lineWritten line buffer) ≡ line) × ReadWithin (lineAnswer line (length buffer)) (length buffer)

@@ -1,4 +1,1 @@
-pub mod Replay
-pub mod Answered
-pub mod Session
-pub mod Theorem
+pub mod Progress

@@ -7,9 +7,9 @@ use mathlib.Core.List.{List, _++_}
 use lib.Dec.{ltb}
 use lib.ListN.{length, take, drop}
 use Rattle.cdi_state.specs.declared.ModuleState.{ModuleState}
-use Rattle.cdi_replay.specs.Replay.{linesText, linesState}
-use Rattle.cdi_replay.specs.Answered.{printedMax, withLineFeeds, answered}
-use Rattle.cdi_replay.specs.Session.{keptOf, lastLine}
+use Rattle.cdi_log.specs.Replay.{linesText, linesState}
+use Rattle.cdi_log.specs.Answered.{printedMax, withLineFeeds, answered}
+use Rattle.cdi_log.specs.Session.{keptOf, lastLine}
 
 -- the input buffer and the output buffer
 abbrev pub bufferSize : ℕ

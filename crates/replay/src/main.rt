@@ -6,7 +6,7 @@
 ghost use mathlib.Core.Path.{_≡_};
 ghost use Prim.Native.Nat.{_+_, _<_, _≤_};
 ghost use lib.ListN.{length, take, drop};
-ghost use Rattle.cdi_replay.specs.Session.{keptMax, keptOf};
+ghost use Rattle.cdi_log.specs.Session.{keptMax, keptOf};
 ghost use Rattle.replay.specs.Program.{bufferSize, part, isEnd, charsAfter, Refilled, Turned};
 use cdi_replay::PRINTED_MAX;
 use cdi_state::ModuleState;

@@ -10,9 +10,9 @@ use lib.ListN.{length, take, drop}
 use Rattle.logic.proofs.Choice.{by-cases}
 use Rattle.bytes.specs.Bytes.{indexOf, indexAfter}
 use Rattle.hex_text.specs.Hex.{lineFeed}
-use Rattle.cdi_replay.specs.Replay.{longer, lines}
-use Rattle.cdi_replay.specs.Answered.{hasLineFeed, wholePart, unfinished}
-use Rattle.cdi_replay.specs.Session.{lastLine}
+use Rattle.cdi_log.specs.Replay.{longer, lines}
+use Rattle.cdi_log.specs.Answered.{hasLineFeed, wholePart, unfinished}
+use Rattle.cdi_log.specs.Session.{lastLine}
 
 -- ---- where a line feed stands
 pub line-found : (chars : List ℕ) → indexOf lineFeed chars < length chars → hasLineFeed chars ≡ true

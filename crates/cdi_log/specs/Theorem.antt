@@ -8,7 +8,7 @@ use Rattle.sequence.specs.Model.{results}
 use Rattle.cdi_model.specs.Step.{Step, StepResult}
 use Rattle.cdi_model.specs.Model.{model}
 use Rattle.cdi_model.specs.Factory.{factoryCells}
-use Rattle.cdi_replay.specs.Replay.{lines, blockStep, resultText, replayed}
+use Rattle.cdi_log.specs.Replay.{lines, blockStep, resultText, replayed}
 
 -- the steps that some lines stand for: a line that is not hex is no step
 unfoldable pub steps : List Line → List Step

@@ -9,11 +9,11 @@ use Rattle.hex_text.specs.Hex.{hexLine}
 use Rattle.answer_text.specs.Text.{printed}
 use Rattle.cdi_state.specs.declared.ModuleState.{ModuleState}
 use Rattle.cdi_state.specs.State.{factoryState}
-use Rattle.cdi_replay.specs.Replay.{lines, lineText, lineState, linesText, linesState, replayedFrom, replayed}
-use Rattle.cdi_replay.specs.Answered.{hasLineFeed, wholePart, unfinished}
-use Rattle.cdi_replay.specs.Session.{keptMax, keptOf, session, joined}
-use Rattle.cdi_replay.proofs.Lines.{whole-and-unfinished, unfinished-has-none, whole-lines-first}
-use Rattle.cdi_replay.proofs.Laws.{last-line, none-taken, kept-enough}
+use Rattle.cdi_log.specs.Replay.{lines, lineText, lineState, linesText, linesState, replayedFrom, replayed}
+use Rattle.cdi_log.specs.Answered.{hasLineFeed, wholePart, unfinished}
+use Rattle.cdi_log.specs.Session.{keptMax, keptOf, session, joined}
+use Rattle.cdi_log.proofs.Lines.{whole-and-unfinished, unfinished-has-none, whole-lines-first}
+use Rattle.cdi_log.proofs.Laws.{last-line, none-taken, kept-enough}
 
 -- the text of some lines and others behind them
 text-append : (s : ModuleState) (ls more : List (List ℕ)) → linesText s (ls ++ more) ≡ linesText s ls ++ linesText (linesState s ls) more

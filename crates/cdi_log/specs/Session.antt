@@ -4,8 +4,8 @@ use mathlib.Core.List.{List, [], _∷_, _++_}
 use lib.ListN.{take}
 use Rattle.hex_text.specs.Hex.{lineFeed, lineMax}
 use Rattle.cdi_state.specs.declared.ModuleState.{ModuleState}
-use Rattle.cdi_replay.specs.Replay.{lines, linesText, linesState}
-use Rattle.cdi_replay.specs.Answered.{wholePart, unfinished}
+use Rattle.cdi_log.specs.Replay.{lines, linesText, linesState}
+use Rattle.cdi_log.specs.Answered.{wholePart, unfinished}
 
 -- the most characters that are kept of a line whose end is still to be read
 abbrev pub keptMax : ℕ

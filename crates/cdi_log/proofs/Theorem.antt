@@ -20,8 +20,8 @@ use Rattle.cdi_module.specs.Machine.{cells, machine}
 use Rattle.cdi_module.proofs.Factory.{factory-cells}
 use Rattle.cdi_module.proofs.Theorem.{sequence-theorem}
 use Rattle.cdi_module.proofs.Validity.{validity-agrees}
-use Rattle.cdi_replay.specs.Replay.{lines, lineText, lineState, linesText}
-use Rattle.cdi_replay.specs.Theorem.{steps, texts, ReplayTheorem}
+use Rattle.cdi_log.specs.Replay.{lines, lineText, lineState, linesText}
+use Rattle.cdi_log.specs.Theorem.{steps, texts, ReplayTheorem}
 
 -- the text of the machine's results
 abbrev machineText : ModuleState → List Line → List ℕ

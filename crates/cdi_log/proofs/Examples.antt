@@ -14,10 +14,10 @@ use Rattle.cdi_store.specs.Store.{settingStored}
 use Rattle.cdi_module.specs.Module.{commandIn, decide, step, resultOf}
 use Rattle.hex_text.specs.Hex.{space, lineFeed, pairs, hexLine}
 use Rattle.answer_text.specs.Text.{hexText, refusedText, notHexText, printed}
-use Rattle.cdi_replay.specs.Replay.{lines, linesText, replayed}
-use Rattle.cdi_replay.specs.Answered.{withLineFeeds}
-use Rattle.cdi_replay.specs.Theorem.{modelReplayed}
-use Rattle.cdi_replay.proofs.Theorem.{replay-theorem}
+use Rattle.cdi_log.specs.Replay.{lines, linesText, replayed}
+use Rattle.cdi_log.specs.Answered.{withLineFeeds}
+use Rattle.cdi_log.specs.Theorem.{modelReplayed}
+use Rattle.cdi_log.proofs.Theorem.{replay-theorem}
 
 -- the five blocks, each a line of hex
 abbrev pub exampleInput : List ℕ

@@ -16,10 +16,10 @@ use Rattle.hex_text.specs.Hex.{hexLine, lineFeed, lineMax}
 use Rattle.answer_text.specs.Text.{printed}
 use Rattle.hex_text.proofs.Lines.{too-long}
 use Rattle.cdi_state.specs.declared.ModuleState.{ModuleState}
-use Rattle.cdi_replay.specs.Replay.{longer, lines, lineText, lineState, linesText, linesState, replayedFrom, stateAtEnd}
-use Rattle.cdi_replay.specs.Answered.{printedMax, hasLineFeed, wholePart, unfinished, withLineFeeds, fitting, answered}
-use Rattle.cdi_replay.specs.Session.{keptMax, keptOf, lastLine}
-use Rattle.cdi_replay.proofs.Lines.{inside, first-line, first-whole-line, no-whole-line, whole-and-unfinished, unfinished-behind, lengthened, part-lengthens, lengthened-first, lengthened-alone, last-line-feed}
+use Rattle.cdi_log.specs.Replay.{longer, lines, lineText, lineState, linesText, linesState, replayedFrom, stateAtEnd}
+use Rattle.cdi_log.specs.Answered.{printedMax, hasLineFeed, wholePart, unfinished, withLineFeeds, fitting, answered}
+use Rattle.cdi_log.specs.Session.{keptMax, keptOf, lastLine}
+use Rattle.cdi_log.proofs.Lines.{inside, first-line, first-whole-line, no-whole-line, whole-and-unfinished, unfinished-behind, lengthened, part-lengthens, lengthened-first, lengthened-alone, last-line-feed}
 
 -- ---- pieces
 -- with some lines at the input's front answered, the rest of the input continues to the same text, the same state and the same

@@ -7,7 +7,7 @@ use Rattle.cdi_state.specs.State.{ArrayLengths}
 use Rattle.cdi_state.specs.Valid.{isValid}
 use Rattle.cdi_module.proofs.Follows.{follows}
 use Rattle.cdi_module.proofs.Theorem.{validity-kept}
-use Rattle.cdi_replay.specs.Replay.{blockStep, lineState}
+use Rattle.cdi_log.specs.Replay.{blockStep, lineState}
 
 pub line-lengths : (s : ModuleState) (line : Line) → ArrayLengths s → ArrayLengths (lineState s line)
 line-lengths s notHex h = h

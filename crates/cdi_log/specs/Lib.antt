@@ -1,0 +1,4 @@
+pub mod Replay
+pub mod Answered
+pub mod Session
+pub mod Theorem
