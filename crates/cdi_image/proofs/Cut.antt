@@ -6,8 +6,8 @@ use mathlib.Core.List.{List, [], _∷_, _++_, map, flatten}
 use native.Mathlib.Omega.{arith}
 use lib.ListN.{length, take, drop, length-append, length-drop, take-append-drop}
 use lib.Seq.{length-take-le, take-at, drop-at, drop-drop}
+use Rattle.logic.specs.Lists.{part}
 use Rattle.logic.proofs.Rest.{nothing-left}
-use Rattle.cdi_image.specs.Image.{part}
 
 -- the pieces of a list from a place on, and where they end
 abbrev pub cut : (from : ℕ) → List ℕ → List ℕ → List (List ℕ)

@@ -4,11 +4,12 @@ use Prim.Native.Nat.{ℕ}
 use mathlib.Core.Path.{_≡_, refl}
 use mathlib.Core.List.{List, [], _∷_, _++_, map, flatMap}
 use lib.ListN.{set, drop, replicate}
+use Rattle.logic.specs.Lists.{hasZero}
 use Rattle.refusal.specs.Refusal.{refusalOf}
 use Rattle.cdi_item.specs.Values.{acceptedValue}
 use Rattle.cdi_state.specs.declared.ModuleState.{ModuleState}
 use Rattle.cdi_state.specs.State.{factoryState}
-use Rattle.cdi_state.specs.Valid.{hasZero, validSlots, isValid}
+use Rattle.cdi_state.specs.Valid.{validSlots, isValid}
 use Rattle.cdi_module.specs.Machine.{cells}
 use Rattle.cdi_image.specs.Image.{imageOf, saved, slotsIn, loaded}
 

@@ -7,12 +7,12 @@ use mathlib.Core.Bool.{Bool, true, false, not, and-eq-true-iff}
 use borrow.Author.Tests.{eqb-true}
 use lib.Dec.{eqb}
 use lib.ListN.{length}
-use Rattle.logic.specs.Lists.{sameBytes}
+use Rattle.logic.specs.Lists.{sameBytes, part}
 use Rattle.refusal.specs.Refusal.{accepted}
 use Rattle.refusal.proofs.Results.{then-refused}
 use Rattle.cdi_state.specs.declared.ModuleState.{ModuleState}
 use Rattle.cdi_store.specs.Store.{stateAtPowerUp}
-use Rattle.cdi_image.specs.Image.{mark, version, imageSize, part, withImage, validContents, loaded}
+use Rattle.cdi_image.specs.Image.{mark, version, imageSize, withImage, validContents, loaded}
 
 pub record Fit (image : List ℕ) : Type 0 where
   pub size : length image ≡ imageSize

@@ -5,13 +5,14 @@ use mathlib.Core.Path.{_≡_, refl, ap, _∙_, subst}
 use mathlib.Core.List.{List, flatten}
 use mathlib.Core.Bool.{Bool, true, false, not, _&&_}
 use native.Mathlib.Omega.{arith}
+use Rattle.logic.specs.Lists.{hasZero, part}
 use Rattle.refusal.specs.Refusal.{accepted}
 use Rattle.refusal.proofs.Results.{then-refused}
 use Rattle.cdi_state.specs.declared.ModuleState.{ModuleState}
 use Rattle.cdi_state.specs.State.{ArrayLengths, FieldLengths}
-use Rattle.cdi_state.specs.Valid.{hasZero, validSettings, validSlots, validFlags, isValid}
+use Rattle.cdi_state.specs.Valid.{validSettings, validSlots, validFlags, isValid}
 use Rattle.cdi_store.specs.Store.{stateAtPowerUp}
-use Rattle.cdi_image.specs.Image.{imageOf, saved, part, withImage}
+use Rattle.cdi_image.specs.Image.{imageOf, saved, withImage}
 use Rattle.cdi_image.specs.Laws.{Reloaded, SaveThenLoad, AfterLoad, LoadThenSave}
 use Rattle.cdi_image.proofs.Fit.{Fit, fit-loads, loads-fit, passed}
 use Rattle.cdi_image.proofs.Contents.{contents-alone}

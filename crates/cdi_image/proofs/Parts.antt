@@ -5,9 +5,10 @@ use mathlib.Core.Path.{_≡_, sym, _∙_}
 use mathlib.Core.List.{List, [], _∷_, flatMap, flatten, append-assoc}
 use native.Mathlib.Omega.{arith}
 use lib.ListN.{length}
+use Rattle.logic.specs.Lists.{part}
 use Rattle.cdi_state.specs.declared.ModuleState.{ModuleState}
 use Rattle.cdi_state.specs.State.{inputBytes, slotBytes, inputAt}
-use Rattle.cdi_image.specs.Image.{mark, version, imageOf, imageSize, part, withImage}
+use Rattle.cdi_image.specs.Image.{mark, version, imageOf, imageSize, withImage}
 use Rattle.cdi_image.specs.Parts.{singleBytes}
 use Rattle.cdi_image.proofs.Cells.{parts-are-cells}
 use Rattle.cdi_image.proofs.Cut.{cut, piece-length}

@@ -7,11 +7,12 @@ use native.Mathlib.Omega.{arith}
 use native.Mathlib.Nat.{zero-add}
 use lib.ListN.{length, getD}
 use lib.Seq.{ext-getD}
+use Rattle.logic.specs.Lists.{part}
 use Rattle.cdi_state.specs.declared.AnalogInput.{AnalogInput}
 use Rattle.cdi_state.specs.declared.ModuleState.{ModuleState}
 use Rattle.cdi_state.specs.State.{inputBytes, slotBytes, noInput, ArrayLengths, FieldLengths}
 use Rattle.cdi_state.proofs.Arrays.{below-two}
-use Rattle.cdi_image.specs.Image.{imageOf, imageSize, part, inputIn, slotsIn, imageSettings, imageSlots, withImage}
+use Rattle.cdi_image.specs.Image.{imageOf, imageSize, inputIn, slotsIn, imageSettings, imageSlots, withImage}
 use Rattle.cdi_image.specs.Parts.{singleBytes}
 use Rattle.cdi_image.proofs.Cut.{cut, cutEnd, cut-flatten, flatten-length}
 use Rattle.cdi_image.proofs.Places.{bytesFrom, part-is-bytes}

@@ -4,13 +4,13 @@ use mathlib.Core.List.{List, [], _∷_, _++_, map, flatMap}
 use mathlib.Core.Bool.{Bool, cond, not, _&&_}
 use lib.Dec.{eqb}
 use lib.ListN.{length, getD, take, drop}
-use Rattle.logic.specs.Lists.{below, sameBytes}
+use Rattle.logic.specs.Lists.{below, sameBytes, hasZero, part}
 use Rattle.refusal.specs.Refusal.{Result, accepted, refused, invalid, imageLength, imageMark, imageVersion}
 use Rattle.cdi_state.specs.declared.AnalogInput.{AnalogInput}
 use Rattle.cdi_state.specs.declared.Slot.{Slot}
 use Rattle.cdi_state.specs.declared.Settings.{Settings}
 use Rattle.cdi_state.specs.declared.ModuleState.{ModuleState}
-use Rattle.cdi_state.specs.Valid.{hasZero, validSettings, validSlots, isValid}
+use Rattle.cdi_state.specs.Valid.{validSettings, validSlots, isValid}
 use Rattle.cdi_store.specs.Store.{stateAtPowerUp}
 use Rattle.cdi_model.specs.Cells.{nv, lineMask, latchMask, txPower, controlSource, messageSelect, interruptMask, setting, input, slot, address, name, firmware, serial, Cell, stored, single}
 use Rattle.cdi_module.specs.Machine.{cells}
@@ -44,9 +44,6 @@ saved s room =
     (cond (not (isValid s)) (refused invalid) (accepted (imageOf s)))
 
 -- ---- what the cells of an image are in a state
-abbrev pub part : (from count : ℕ) → List ℕ → List ℕ
-part from count image = take count (drop from image)
-
 -- a row of five bytes as a slot, and as an input
 abbrev pub slotIn : List ℕ → Slot
 slotIn row = record { address = take 4 row; mask = getD row 4 0 }

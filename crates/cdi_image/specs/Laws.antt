@@ -5,7 +5,7 @@ use mathlib.Core.Path.{_≡_}
 use mathlib.Core.List.{List, [], _∷_, _++_, map, flatMap}
 use mathlib.Core.Bool.{Bool, true, false, cond, Bool·beq}
 use lib.ListN.{replicate}
-use Rattle.logic.specs.Lists.{below}
+use Rattle.logic.specs.Lists.{below, all}
 use Rattle.refusal.specs.Refusal.{accepted}
 use Rattle.cdi_state.specs.declared.Settings.{Settings}
 use Rattle.cdi_state.specs.declared.ModuleState.{ModuleState}
@@ -14,7 +14,7 @@ use Rattle.cdi_state.specs.Valid.{isValid}
 use Rattle.cdi_model.specs.Cells.{nv, working, Single, name, firmware, serial, lines, rssi, ladj, events, flags, hardwarePower, hardwareLineMask, hardwareLatchMask, Cell, stored, single}
 use Rattle.cdi_model.specs.Table.{powerUpStores}
 use Rattle.cdi_model.specs.Model.{powerUpGives}
-use Rattle.cdi_model.specs.Tight.{all, everyCell, isIn, allApart}
+use Rattle.cdi_model.specs.Tight.{everyCell, isIn, allApart}
 use Rattle.cdi_module.specs.Machine.{cells}
 use Rattle.cdi_image.specs.Image.{imageCells, imageOf, imageSize, saved, loaded}
 

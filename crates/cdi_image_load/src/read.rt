@@ -1,8 +1,8 @@
 // Reading an image: whether it is one, and the state with its cells.
 ghost use mathlib.Core.Path.{_≡_};
 ghost use lib.ListN.{length};
-ghost use Rattle.logic.specs.Lists.{sameBytes};
-ghost use Rattle.cdi_image.specs.Image.{mark, version, imageSize, part, slotIn, inputIn, slotsIn, imageSettings, withImage};
+ghost use Rattle.logic.specs.Lists.{sameBytes, part};
+ghost use Rattle.cdi_image.specs.Image.{mark, version, imageSize, slotIn, inputIn, slotsIn, imageSettings, withImage};
 use cdi_image::ADDRESS_AT;
 use cdi_image::FIRMWARE_AT;
 use cdi_image::INPUT_1_AT;

@@ -7,23 +7,24 @@ use mathlib.Core.Bool.{Bool, true, not, _||_, Bool·beq, and-eq-true-iff}
 use borrow.Author.Tests.{eqb-true, leb-true}
 use lib.Dec.{eqb, leb}
 use lib.ListN.{length}
+use Rattle.logic.specs.Lists.{all}
 use Rattle.logic.proofs.Choice.{by-cases, implied, same}
 use Rattle.refusal.specs.Refusal.{accepted, refused, itemNotServed}
 use Rattle.refusal.proofs.Results.{never-both}
 use Rattle.cdi_item.specs.declared.Item.{Item}
 use Rattle.cdi_item.specs.Items.{R, W, P, analogInput, pairedModule, items, itemIn, itemOf, permitted}
-use Rattle.cdi_item.specs.Consistent.{every, risingFrom, consistent}
+use Rattle.cdi_item.specs.Consistent.{risingFrom, consistent}
 
 -- seventeen items, their codes strictly rising, each of them consistent
-pub items-consistent : (length items ≡ 17) × (risingFrom 0 items ≡ true) × (every consistent items ≡ true)
+pub items-consistent : (length items ≡ 17) × (risingFrom 0 items ≡ true) × (all consistent items ≡ true)
 unfolding items
 items-consistent = (refl, refl, refl)
 
-in-list : (ok : Item → Bool) (l : List Item) (code : ℕ) (x : Item) → every ok l ≡ true → itemIn l code ≡ accepted x → (ok x ≡ true) × (x .code ≡ code)
+in-list : (ok : Item → Bool) (l : List Item) (code : ℕ) (x : Item) → all ok l ≡ true → itemIn l code ≡ accepted x → (ok x ≡ true) × (x .code ≡ code)
 unfolding itemIn
 in-list ok [] code x t e = never-both itemNotServed x e
 in-list ok (y ∷ ys) code x t e =
-    let both = and-eq-true-iff (ok y) (every ok ys) .0 t in
+    let both = and-eq-true-iff (ok y) (all ok ys) .0 t in
     by-cases (eqb (y .code) code)
     (λ q.
     let same : y ≡ x = cc (simp q at e) in
@@ -31,7 +32,7 @@ in-list ok (y ∷ ys) code x t e =
     (λ q. in-list ok ys code x (both .1) (simp q at e))
 
 -- what a test finds of each item of the list holds of an item that is found, which has the code asked for
-pub found : (ok : Item → Bool) → every ok items ≡ true → (code : ℕ) (x : Item) → itemOf code ≡ accepted x → (ok x ≡ true) × (x .code ≡ code)
+pub found : (ok : Item → Bool) → all ok items ≡ true → (code : ℕ) (x : Item) → itemOf code ≡ accepted x → (ok x ≡ true) × (x .code ≡ code)
 unfolding itemOf
 found ok t code x e = in-list ok items code x t e
 

@@ -6,10 +6,6 @@ use lib.Dec.{eqb, ltb, leb}
 use Rattle.cdi_item.specs.declared.Item.{Item}
 use Rattle.cdi_item.specs.Items.{R, W, P, analogInput, pairedModule, permitted}
 
-abbrev pub every : (Item → Bool) → List Item → Bool
-every ok [] = true
-every ok (x ∷ xs) = ok x && every ok xs
-
 -- the codes rise strictly from one item to the next, so no code stands twice
 abbrev pub risingFrom : ℕ → List Item → Bool
 risingFrom code [] = true

@@ -6,6 +6,7 @@ use lib.Dec.{eqb, ltb, leb}
 use lib.IntN.{ℤ, pos, negℤ}
 use lib.ListN.{getD, take, drop}
 use lib.Signed.{leZ}
+use Rattle.logic.specs.Lists.{allZero}
 use Rattle.logic.specs.Signed.{signed}
 use Rattle.cdi_item.specs.declared.Value.{Value}
 use Rattle.cdi_item.specs.Items.{txPower, controlSource, messageSelect, analogInput, pairedModule}
@@ -37,10 +38,6 @@ acceptedInput v =
     ((leb 0x04 (getD v 0 0) && leb (getD v 0 0) 0x07) || (eqb (getD v 0 0) 0xFE || eqb (getD v 0 0) 0xFF)) &&
     (leb 1 (getD v 1 0) && leb (getD v 1 0) 16) &&
     leb (getD v 2 0) 1
-
-abbrev pub allZero : List ℕ → Bool
-allZero [] = true
-allZero (b ∷ bs) = eqb b 0 && allZero bs
 
 -- a slot: the address 00 00 00 00 goes with the mask 00 alone
 abbrev pub acceptedSlot : List ℕ → Bool

@@ -6,7 +6,7 @@ use mathlib.Core.Bool.{Bool, true, cond}
 use mathlib.Core.List.{List, [], _∷_, _++_, map, map-congr-left}
 use lib.Dec.{ltb}
 use lib.ListN.{length, replicate}
-use Rattle.logic.specs.Lists.{allBelow}
+use Rattle.logic.specs.Lists.{allBelow, hasZero}
 use Rattle.logic.specs.Written.{written}
 use Rattle.refusal.specs.Refusal.{invalid, responseBufferShort}
 use Rattle.cdi_item.specs.Items.{items, itemIn, itemOf}
@@ -15,7 +15,7 @@ use Rattle.cdi_frame.specs.Frame.{wakes, lengthAt, readFrame}
 use Rattle.cdi_command.specs.Command.{select, commandOn, validateItem, isServed, isHeadLengthRight, validatePayload}
 use Rattle.sequence.specs.Model.{next, results}
 use Rattle.cdi_model.specs.Cells.{nv, working, txPower, controlSource, messageSelect, interruptMask, setting, input, slot, Single, name, firmware, serial, lines, rssi, ladj, events, flags, hardwarePower, hardwareLineMask, hardwareLatchMask, Cell, stored, single, same}
-use Rattle.cdi_model.specs.Values.{allZero, hasZero, upToZero}
+use Rattle.cdi_model.specs.Values.{upToZero}
 use Rattle.cdi_model.specs.Factory.{factoryCells}
 use Rattle.cdi_model.specs.Step.{Step, powerUp, command, StepResult, poweredUp, responded}
 use Rattle.cdi_model.specs.Action.{actionOf}
@@ -296,7 +296,7 @@ abbrev pub expected : Run → List StepResult
 expected r = map (λ (x : Row). x .1) (r .rows)
 
 pub factory-valid : isValid factoryCells ≡ true
-unfolding isValid allBelow hasZero allZero
+unfolding isValid allBelow hasZero
 factory-valid = refl
 
 -- ---- no step changes validity, so it is computed once for a run
@@ -333,7 +333,7 @@ resultsOf r = resultsBy (isValid (r .start)) (r .start) (steps r)
 
 runs-hold : map resultsOf runs ≡ map expected runs
 unfolding written items itemIn itemOf acceptedValue wakes lengthAt readFrame
-    select commandOn validateItem isServed isHeadLengthRight validatePayload allZero hasZero upToZero actionOf
+    select commandOn validateItem isServed isHeadLengthRight validatePayload hasZero upToZero actionOf
     stores allBelow isValid decidePayload decideBlock gives valueRead responsePayload resultOf
 runs-hold = refl
 

@@ -5,12 +5,12 @@ use mathlib.Core.Path.{_≡_, refl, sym, _∙_}
 use mathlib.Core.Bool.{Bool, true, false, cond, not, _&&_, _||_, and-eq-true-iff}
 use borrow.Author.Tests.{eqb-true}
 use lib.Dec.{eqb}
+use Rattle.logic.specs.Lists.{all}
 use Rattle.logic.proofs.Choice.{implied}
 use Rattle.refusal.specs.Refusal.{accepted}
 use Rattle.cdi_item.specs.declared.Item.{Item}
 use Rattle.cdi_item.specs.Items as item
 use Rattle.cdi_item.specs.Items.{W, P, items, itemOf, permitted}
-use Rattle.cdi_item.specs.Consistent.{every}
 use Rattle.cdi_item.proofs.Consistent.{found}
 use Rattle.cdi_command.specs.declared.Index.{Index}
 use Rattle.cdi_command.specs.declared.Index.the-variants.{Slot, Input}
@@ -49,7 +49,7 @@ keyed x =
     ((not (permitted x P) || (x .indexed || eqb (x .length) (width (keyOf (x .code))))) &&
     (not (permitted x W) || cond (x .indexed) (eqb (x .code) item.analogInput) (hasWorking (keyOf (x .code))))))
 
-items-keyed : every keyed items ≡ true
+items-keyed : all keyed items ≡ true
 unfolding items
 items-keyed = refl
 

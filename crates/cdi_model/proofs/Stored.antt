@@ -6,7 +6,7 @@ use mathlib.Core.Bool.{true, cond, _&&_, _||_, and-eq-true-iff}
 use mathlib.Core.List.{List}
 use Rattle.logic.proofs.Choice.{choice, either}
 use Rattle.cdi_model.specs.Cells.{Copy, nv, working, lineMask, latchMask, txPower, controlSource, messageSelect, interruptMask, Key, setting, input, slot, address, rssi, events, flags, Cell, stored, single, hasWorking, isKey, isCell, same, sameCopy, sameSingle}
-use Rattle.cdi_model.specs.Values.{allZero, accepted, defaultValue, emptySlot}
+use Rattle.cdi_model.specs.Values.{accepted, defaultValue, emptySlot}
 use Rattle.cdi_model.specs.Action.{Action, read, readNv, readStatus, write, program, setDefault, eraseAll}
 use Rattle.cdi_model.specs.Table.{Decision, refuse, execute, executePowerUp, inCopy, isSlot, actionStores, powerUpStores, stores}
 use Rattle.cdi_model.specs.Model.{Cells, actionGives, powerUpGives, gives}
@@ -36,7 +36,6 @@ in-copy copy c k e = and-eq-true-iff (sameCopy copy c) (hasWorking k) .0 e .1
 
 -- a slot accepts the empty slot's value
 empty-taken : (c : Cell) → isSlot c ≡ true → takes c emptySlot ≡ true
-unfolding allZero
 empty-taken (stored c (setting s)) e = cc
 empty-taken (stored c (input n)) e = cc
 empty-taken (stored c (slot i)) e = refl

@@ -8,7 +8,7 @@ use mathlib.Core.List.{List, [], _∷_, map, flatMap}
 use borrow.Author.Tests.{ltb-true, eq-eqb}
 use lib.Dec.{eqb}
 use lib.ListN.{length}
-use Rattle.logic.specs.Lists.{allBelow, sameBytes}
+use Rattle.logic.specs.Lists.{allBelow, sameBytes, hasZero, all}
 use Rattle.logic.proofs.Below.{all-at}
 use Rattle.logic.proofs.Choice.{choice}
 use Rattle.refusal.specs.Refusal.{valueNotAccepted}
@@ -16,11 +16,11 @@ use Rattle.cdi_item.specs.Items.{items, itemIn, itemOf}
 use Rattle.cdi_item.specs.Values.{acceptedValue}
 use Rattle.cdi_command.specs.Command.{select, commandOn, validateItem, isServed, isHeadLengthRight, validatePayload}
 use Rattle.cdi_model.specs.Cells.{nv, working, lineMask, latchMask, txPower, controlSource, messageSelect, interruptMask, setting, input, slot, address, name, firmware, serial, lines, rssi, ladj, events, flags, hardwarePower, hardwareLineMask, hardwareLatchMask, Cell, stored, single, Key, hasWorking, isKey, isCell, same}
-use Rattle.cdi_model.specs.Values.{allZero, hasZero, upToZero}
+use Rattle.cdi_model.specs.Values.{upToZero}
 use Rattle.cdi_model.specs.Action.{Action, write, program, actionOf}
 use Rattle.cdi_model.specs.Table.{Decision, refuse, execute, executePowerUp, isAccepted, reads, stores}
 use Rattle.cdi_model.specs.Model.{Cells, isValid, decidePayload, gives, valueRead, responsePayload}
-use Rattle.cdi_model.specs.Tight.{all, any, those, everyCell, isIn, allApart, samplePayloads, sampleDecisions, stateOf, base, hardwareShown, workingShown, other, differIn, changed, responseOf, differs, storedCells, matters, changes, isTight}
+use Rattle.cdi_model.specs.Tight.{any, those, everyCell, isIn, allApart, samplePayloads, sampleDecisions, stateOf, base, hardwareShown, workingShown, other, differIn, changed, responseOf, differs, storedCells, matters, changes, isTight}
 use Rattle.cdi_model.proofs.Cells.{same-eq}
 use Rattle.cdi_model.proofs.Checked.{CheckedDecision, payload-checked}
 use Rattle.cdi_model.proofs.Validity.{takes, each-input, valid-takes, takes-valid}
@@ -89,7 +89,7 @@ all-true f h (c ∷ l) = and-eq-true-iff (f c) (all f l) .1 (h c, all-true f h l
 
 -- validity goes cell by cell, so it is computed for the states alone
 states-valid : (isValid (base hardwareShown) ≡ true) × (isValid (base workingShown) ≡ true) × (isValid other ≡ true)
-unfolding stateOf isValid allBelow hasZero allZero
+unfolding stateOf isValid allBelow hasZero
 states-valid = (refl, refl, refl)
 
 changed-valid : (s : Cells) → isValid s ≡ true → (c : Cell) → isValid (changed s c) ≡ true

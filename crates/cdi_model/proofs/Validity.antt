@@ -8,11 +8,11 @@ use mathlib.Core.List.{List}
 use native.Mathlib.Omega.{arith}
 use borrow.Author.Tests.{ltb-true, lt-ltb, leb-true, eqb-true, eqb-false}
 use lib.Dec.{eqb, leb}
-use Rattle.logic.specs.Lists.{allBelow}
+use Rattle.logic.specs.Lists.{allBelow, hasZero}
 use Rattle.logic.proofs.Below.{all-at, all-of}
 use Rattle.logic.proofs.Choice.{choice, by-cases}
 use Rattle.cdi_model.specs.Cells.{Copy, nv, working, lineMask, latchMask, txPower, controlSource, messageSelect, interruptMask, Key, setting, input, slot, address, name, flags, Cell, stored, single, hasWorking, isKey, isCell, sameSingle}
-use Rattle.cdi_model.specs.Values.{byteOf, accepted, acceptedFlags, hasZero}
+use Rattle.cdi_model.specs.Values.{byteOf, accepted, acceptedFlags}
 use Rattle.cdi_model.specs.Model.{Cells, holdsAccepted, validCopy, isValid}
 use Rattle.cdi_model.proofs.Cells.{single-eq}
 

@@ -4,14 +4,13 @@ use Prim.Native.Nat.{ℕ, _+_}
 use mathlib.Core.Path.{refl}
 use mathlib.Core.List.{List, [], _∷_}
 use lib.ListN.{length, replicate}
-use Rattle.logic.specs.Lists.{allBelow}
+use Rattle.logic.specs.Lists.{allBelow, hasZero}
 use Rattle.cdi_item.specs.Items.{items, itemIn, itemOf}
 use Rattle.cdi_item.specs.Values.{acceptedValue}
 use Rattle.cdi_frame.specs.Frame.{wakes, lengthAt, readFrame}
 use Rattle.cdi_command.specs.Command.{select, commandOn, validateItem, isServed, isHeadLengthRight, validatePayload}
 use Rattle.sequence.specs.Model.{Apart}
 use Rattle.cdi_model.specs.Cells.{nv, working, txPower, messageSelect, setting, stored}
-use Rattle.cdi_model.specs.Values.{allZero, hasZero}
 use Rattle.cdi_model.specs.Step.{Step, powerUp, command}
 use Rattle.cdi_model.specs.Action.{read, readNv, actionOf}
 use Rattle.cdi_model.specs.Table.{stores}
@@ -42,7 +41,7 @@ pub record Witnesses : Type 0 where
 
 pub witnesses : Witnesses
 unfolding items itemIn itemOf acceptedValue wakes lengthAt readFrame select commandOn validateItem isServed isHeadLengthRight validatePayload
-    allZero hasZero actionOf stores allBelow isValid decide decidePayload decideBlock gives
+    hasZero actionOf stores allBelow isValid decide decidePayload decideBlock gives
 witnesses = record {
   refused-and-power-up = refused-first factoryCells (writeBlock 0x15 0x07) powerUp refl;
   reads =

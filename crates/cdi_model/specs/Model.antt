@@ -5,7 +5,7 @@ use mathlib.Core.List.{List, [], _∷_, _++_}
 use mathlib.Core.Bool.{Bool, cond, _&&_}
 use lib.Dec.{ltb}
 use lib.ListN.{length, drop}
-use Rattle.logic.specs.Lists.{allBelow}
+use Rattle.logic.specs.Lists.{allBelow, hasZero}
 use Rattle.logic.specs.Written.{written}
 use Rattle.refusal.specs.Refusal.{Result, accepted as acceptedAs, refused, none, invalid, responseBufferShort}
 use Rattle.cdi_frame.specs.declared.Span.{Span}
@@ -15,7 +15,7 @@ use Rattle.cdi_command.specs.declared.Command.{Command}
 use Rattle.cdi_command.specs.Command.{validatePayload}
 use Rattle.sequence.specs.Model.{Model}
 use Rattle.cdi_model.specs.Cells.{Copy, nv, working, lineMask, latchMask, txPower, controlSource, messageSelect, interruptMask, Key, setting, input, slot, Single, name, firmware, serial, lines, rssi, ladj, events, flags, hardwarePower, hardwareLineMask, hardwareLatchMask, Cell, stored, single}
-use Rattle.cdi_model.specs.Values.{byteOf, accepted, acceptedFlags, hasZero, defaultValue, emptySlot, upToZero, statusBytes}
+use Rattle.cdi_model.specs.Values.{byteOf, accepted, acceptedFlags, defaultValue, emptySlot, upToZero, statusBytes}
 use Rattle.cdi_model.specs.Step.{Step, powerUp, command, StepResult, poweredUp, responded}
 use Rattle.cdi_model.specs.Action.{Action, read, readNv, readStatus, write, program, setDefault, eraseAll, actionOf}
 use Rattle.cdi_model.specs.Table.{Decision, refuse, execute, executePowerUp, isAccepted, reads, stores}
@@ -33,6 +33,7 @@ validCopy s copy =
     (((holdsAccepted s copy (setting txPower) && holdsAccepted s copy (setting controlSource)) &&
     holdsAccepted s copy (setting messageSelect)) && holdsAccepted s copy (input 1)) && holdsAccepted s copy (input 2)
 
+-- the stored name has a 00, both copies and all slots hold accepted values, and so do the flags
 unfoldable pub isValid : Cells → Bool
 isValid s =
     (((hasZero (s (single name)) && validCopy s nv) && validCopy s working) && allBelow 40 (λ i. holdsAccepted s nv (slot i))) &&

@@ -7,16 +7,13 @@ use lib.Dec.{eqb, ltb, leb}
 use lib.IntN.{pos, negℤ}
 use lib.ListN.{getD, take, drop}
 use lib.Signed.{leZ}
+use Rattle.logic.specs.Lists.{allZero}
 use Rattle.logic.specs.Signed.{signed}
 use Rattle.cdi_model.specs.Cells.{Setting, lineMask, latchMask, txPower, controlSource, messageSelect, interruptMask, Key, setting, input, slot, address}
 
 -- the first byte of a value
 abbrev pub byteOf : List ℕ → ℕ
 byteOf v = getD v 0 0
-
-unfoldable pub allZero : List ℕ → Bool
-allZero [] = true
-allZero (b ∷ bs) = eqb b 0 && allZero bs
 
 -- ---- accepted values
 abbrev pub acceptedSetting : Setting → ℕ → Bool
@@ -47,11 +44,6 @@ accepted address v = true
 -- of the live flags the lowest three bits are the mode; three other bits are always clear
 abbrev pub acceptedFlags : ℕ → Bool
 acceptedFlags flags = leb (bitAnd flags 0x07) 4 && eqb (bitAnd flags 0xC8) 0
-
--- a stored name has a 00
-unfoldable pub hasZero : List ℕ → Bool
-hasZero [] = false
-hasZero (b ∷ bs) = eqb b 0 || hasZero bs
 
 -- ---- what Set Default stores: 00 00 00 06 00 in 11 to 15, FF 01 00 00 00 in each row of 16, 00 in 25
 abbrev pub defaultSetting : Setting → ℕ

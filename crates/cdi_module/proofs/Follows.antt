@@ -10,6 +10,7 @@ use lib.Dec.{eqb, ltb}
 use lib.ListN.{length, getD, drop, length-set, List·getD-eq-default}
 use lib.Seq.{ext-getD}
 use borrow.Author.Tests.{ltb-false}
+use Rattle.logic.specs.Lists.{all}
 use Rattle.logic.proofs.Choice.{choice, by-cases, implied}
 use Rattle.refusal.specs.Refusal.{Result, accepted, refused, andThen}
 use Rattle.cdi_frame.specs.declared.Span.{Span}
@@ -17,7 +18,6 @@ use Rattle.cdi_frame.specs.Frame.{wakeLimit, readFrame, payloadIn}
 use Rattle.cdi_frame.specs.Layout.{responseFrame}
 use Rattle.cdi_item.specs.declared.Item.{Item}
 use Rattle.cdi_item.specs.Items as item
-use Rattle.cdi_item.specs.Consistent.{every}
 use Rattle.cdi_item.proofs.Consistent.{found}
 use Rattle.cdi_item.proofs.Numbers.{no-input}
 use Rattle.cdi_command.specs.declared.Index.the-variants.{Slot as SlotAt, Input as InputAt}
@@ -90,7 +90,7 @@ read-response status payload v = refl
 no-read-nv : Item → Bool
 no-read-nv x = not (item.permitted x item.N) || not (eqb (x .code) item.status)
 
-every-no-read-nv : every no-read-nv item.items ≡ true
+every-no-read-nv : all no-read-nv item.items ≡ true
 unfolding item.items no-read-nv
 every-no-read-nv = refl
 

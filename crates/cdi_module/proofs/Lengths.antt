@@ -8,11 +8,11 @@ use native.Mathlib.Omega.{arith}
 use borrow.Author.Tests.{eqb-true}
 use lib.Dec.{eqb}
 use lib.ListN.{length, getD, length-append}
+use Rattle.logic.specs.Lists.{all}
 use Rattle.logic.proofs.Choice.{choice, by-cases}
 use Rattle.refusal.specs.Refusal.{accepted}
 use Rattle.cdi_item.specs.declared.Item.{Item}
 use Rattle.cdi_item.specs.Items as item
-use Rattle.cdi_item.specs.Consistent.{every}
 use Rattle.cdi_item.proofs.Consistent.{found, found-row}
 use Rattle.cdi_command.specs.declared.Index.{Index}
 use Rattle.cdi_command.specs.declared.Index.the-variants.{Slot, Input}
@@ -58,7 +58,7 @@ plainLength code =
 abbrev lengthRight : Item → Bool
 lengthRight x = x .indexed || eqb (x .length) (plainLength (x .code))
 
-lengths-right : every lengthRight item.items ≡ true
+lengths-right : all lengthRight item.items ≡ true
 unfolding item.items
 lengths-right = refl
 

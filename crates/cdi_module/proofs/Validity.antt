@@ -11,17 +11,11 @@ use Rattle.cdi_item.specs.Values.{acceptedValue}
 use Rattle.cdi_state.specs.declared.Slot.{Slot}
 use Rattle.cdi_state.specs.declared.ModuleState.{ModuleState}
 use Rattle.cdi_state.specs.State.{slotBytes, noSlot, ArrayLengths}
-use Rattle.cdi_state.specs.Valid.{hasZero, validSettings, validSlot, validSlots, isValid}
+use Rattle.cdi_state.specs.Valid.{validSettings, validSlot, validSlots, isValid}
 use Rattle.cdi_model.specs.Cells.{nv, working}
-use Rattle.cdi_model.specs.Values.{acceptedSlot, hasZero as hasZeroCell}
+use Rattle.cdi_model.specs.Values.{acceptedSlot}
 use Rattle.cdi_model.specs.Model.{validCopy, isValid as isValidCells}
-use Rattle.cdi_model.proofs.Values.{zeros-agree}
 use Rattle.cdi_module.specs.Machine.{cells}
-
-zero-agrees : (l : List ℕ) → hasZero l ≡ hasZeroCell l
-unfolding hasZero hasZeroCell
-zero-agrees [] = refl
-zero-agrees (b ∷ bs) = ap (λ (t : Bool). eqb b 0 || t) (zero-agrees bs)
 
 -- a test of all numbers below one more, from the first on
 all-from-first : (n : ℕ) (ok : ℕ → Bool) → allBelow (suc n) ok ≡ (ok 0 && allBelow n (λ i. ok (suc i)))
@@ -36,7 +30,7 @@ all-from-first (suc n) ok = ap (λ (t : Bool). ok (suc n) && t) (all-from-first 
 
 slot-agrees : (x : Slot) → validSlot x ≡ acceptedSlot (slotBytes x)
 unfolding acceptedValue
-slot-agrees x = simp (zeros-agree (take 4 (slotBytes x)), zeros-agree (drop 4 (slotBytes x)))
+slot-agrees x = refl
 
 slots-agree : (l : List Slot) → validSlots l ≡ allBelow (length l) (λ i. acceptedSlot (slotBytes (getD l i noSlot)))
 unfolding validSlots allBelow
@@ -53,4 +47,4 @@ unfolding isValid isValidCells cells
 validity-agrees s h =
     let slots : validSlots (s .slots) ≡ allBelow 40 (λ i. acceptedSlot (slotBytes (getD (s .slots) i noSlot))) =
     subst (λ (n : ℕ). validSlots (s .slots) ≡ allBelow n (λ i. acceptedSlot (slotBytes (getD (s .slots) i noSlot)))) (h .slot-count) (slots-agree (s .slots)) in
-    rw (zero-agrees (s .name), settings-agree s .0, settings-agree s .1, slots)
+    rw (settings-agree s .0, settings-agree s .1, slots)

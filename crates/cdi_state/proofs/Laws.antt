@@ -5,10 +5,11 @@ use mathlib.Core.Path.{_≡_, refl}
 use mathlib.Core.Bool.{true}
 use mathlib.Core.List.{[], _∷_}
 use lib.IntN.{pos, negℤ}
+use Rattle.logic.specs.Lists.{hasZero}
 use Rattle.cdi_item.specs.Values.{acceptedValue}
 use Rattle.cdi_state.specs.declared.AnalogInput.{AnalogInput}
 use Rattle.cdi_state.specs.State.{inputOffset, factoryState}
-use Rattle.cdi_state.specs.Valid.{hasZero, validSlots, isValid}
+use Rattle.cdi_state.specs.Valid.{validSlots, isValid}
 
 pub factory-valid : isValid factoryState ≡ true
 unfolding isValid hasZero validSlots acceptedValue

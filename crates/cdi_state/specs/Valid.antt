@@ -1,10 +1,11 @@
 -- Document 01, "Items", the valid state (01's "sound"). What an item accepts stands in the item list's crate alone.
 use Prim.Native.Nat.{ℕ}
 use mathlib.Core.List.{List, [], _∷_}
-use mathlib.Core.Bool.{Bool, true, false, _&&_, _||_}
+use mathlib.Core.Bool.{Bool, true, _&&_}
 use lib.Bits.{bitAnd}
 use lib.Dec.{eqb, leb}
 use lib.ListN.{getD}
+use Rattle.logic.specs.Lists.{hasZero}
 use Rattle.cdi_item.specs.Items.{txPower, controlSource, messageSelect, analogInput, pairedModule}
 use Rattle.cdi_item.specs.Values.{acceptedValue}
 use Rattle.cdi_state.specs.declared.Slot.{Slot}
@@ -12,11 +13,6 @@ use Rattle.cdi_state.specs.declared.AnalogInput.{AnalogInput}
 use Rattle.cdi_state.specs.declared.Settings.{Settings}
 use Rattle.cdi_state.specs.declared.ModuleState.{ModuleState}
 use Rattle.cdi_state.specs.State.{inputBytes, slotBytes, noInput}
-
--- a name has a 00
-unfoldable pub hasZero : List ℕ → Bool
-hasZero [] = false
-hasZero (b ∷ bs) = eqb b 0 || hasZero bs
 
 abbrev pub validInput : AnalogInput → Bool
 validInput x = acceptedValue analogInput (inputBytes x)
@@ -41,6 +37,7 @@ validSlots (s ∷ ss) = validSlot s && validSlots ss
 abbrev pub validFlags : ℕ → Bool
 validFlags flags = leb (bitAnd flags 0x07) 4 && eqb (bitAnd flags 0xC8) 0
 
+-- the name has a 00, both copies of the settings and all slots hold accepted values, and so do the flags
 unfoldable pub isValid : ModuleState → Bool
 isValid s =
     (((hasZero (s .name) && validSettings (s .nv)) && validSettings (s .working)) && validSlots (s .slots)) &&

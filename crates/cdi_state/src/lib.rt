@@ -4,10 +4,11 @@ ghost use Prim.Native.Nat.{_+_, _*_};
 ghost use mathlib.Core.Path.{_≡_};
 ghost use mathlib.Core.List.{[], _∷_};
 ghost use lib.ListN.{length, getD};
+ghost use Rattle.logic.specs.Lists.{hasZero};
 ghost use Rattle.logic.specs.Signed.{signed};
 ghost use Rattle.cdi_item.specs.Values.{acceptedValue};
 ghost use Rattle.cdi_state.specs.State.{inputBytes, slotBytes, inputOffset, noInput, factoryState, ArrayLengths, FieldLengths};
-ghost use Rattle.cdi_state.specs.Valid.{hasZero, validInput, validSettings, validSlot, validSlots, validFlags, isValid};
+ghost use Rattle.cdi_state.specs.Valid.{validInput, validSettings, validSlot, validSlots, validFlags, isValid};
 use cdi_item::Value;
 use cdi_item::code;
 

@@ -3,7 +3,8 @@ use Prim.Native.Nat.{ℕ, _+_, _-_, _*_}
 use mathlib.Core.Bool.{Bool, true, false, cond, _&&_, _||_}
 use mathlib.Core.List.{List, [], _∷_}
 use lib.Dec.{ltb, leb, eqb}
-use lib.ListN.{length, take, drop}
+use lib.ListN.{length, drop}
+use Rattle.logic.specs.Lists.{part}
 use Rattle.logic.specs.Written.{writtenIn}
 use Rattle.bytes.specs.Bytes.{indexOf}
 use Rattle.hex_text.specs.declared.HexLine.{HexLine}
@@ -75,7 +76,7 @@ lastPair (high ∷ low ∷ rest) = isPair high low && isLineEnd rest
 -- the line that starts at a place of a text, without its line feed; its end is the place of the line feed, or of the text's end
 -- where there is none, and a line that would start past the text's end is empty and ends there
 abbrev pub lineFrom : ℕ → List ℕ → List ℕ
-lineFrom from text = take (indexOf lineFeed (drop from text)) (drop from text)
+lineFrom from text = part from (indexOf lineFeed (drop from text)) text
 
 abbrev pub lineEnd : ℕ → List ℕ → ℕ
 lineEnd from text = cond (leb from (length text)) (from + indexOf lineFeed (drop from text)) (length text)

@@ -11,7 +11,7 @@ use lib.ListN.{length, take, drop, getD, set, length-drop}
 use lib.Seq.{take-all, take-take, take-add, take-suc, take-suc-set, drop-set-lt, drop-drop, getD-drop, length-take-le}
 use Rattle.hex_text.specs.Hex.{lineFeed}
 use Rattle.cdi_log.specs.Session.{keptMax, keptOf, lastLine}
-use Rattle.replay.specs.Program.{part, isEnd, charsAfter, Refilled}
+use Rattle.replay.specs.Program.{between, isEnd, charsAfter, Refilled}
 
 -- one byte more is moved to the front: what is still to be moved is as it was
 module _ (moved first : List ℕ) (from i : ℕ) (same : length moved ≡ length first) (inside : from + i < length first) where
@@ -30,12 +30,12 @@ module _ (moved first : List ℕ) (from i : ℕ) (same : length moved ≡ length
 
 -- all that is moved is what is to be kept, where the loop stops at the most that has to be kept, and where it stops at the end
 module _ (l : List ℕ) (from end i : ℕ) (before : from + i ≤ end) (inside : end ≤ length l) (few : i ≤ keptMax) where
-  pub kept-most : keptMax ≤ i → take i (drop from l) ≡ keptOf (part from end l)
+  pub kept-most : keptMax ≤ i → take i (drop from l) ≡ keptOf (between from end l)
   kept-most most =
       let all : i ≡ keptMax = omega arith in
       rw all (sym (take-take keptMax (end - from) (drop from l) (omega arith)))
 
-  pub kept-all : end ≤ from + i → take i (drop from l) ≡ keptOf (part from end l)
+  pub kept-all : end ≤ from + i → take i (drop from l) ≡ keptOf (between from end l)
   kept-all most =
       let size = length-drop from l in
       let all : end - from ≡ i = omega arith in

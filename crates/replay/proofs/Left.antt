@@ -20,11 +20,11 @@ use Rattle.cdi_log.specs.Answered.{printedMax, unfinished, withLineFeeds, answe
 use Rattle.cdi_replay.specs.Progress.{progress}
 use Rattle.cdi_log.specs.Session.{keptOf}
 use Rattle.cdi_log.proofs.Laws.{consumed-within, unfinished-left}
-use Rattle.replay.specs.Program.{bufferSize, part, Refilled, answers, leftBehind, isFull, Stays}
+use Rattle.replay.specs.Program.{bufferSize, between, Refilled, answers, leftBehind, isFull, Stays}
 
 -- a part of a buffer, once some of it is behind
-part-behind : (l : List ℕ) (from end n : ℕ) → from + n ≤ end → end ≤ length l → part (from + n) end l ≡ drop n (part from end l)
-part-behind l from end n within inside =
+between-behind : (l : List ℕ) (from end n : ℕ) → from + n ≤ end → end ≤ length l → between (from + n) end l ≡ drop n (between from end l)
+between-behind l from end n within inside =
     let k = end - (from + n) in
     let size = length-drop from l in
     let width : end - from ≡ n + k = omega arith in
@@ -36,20 +36,20 @@ part-behind l from end n within inside =
 pub record Learnt (state : ModuleState) (input : List ℕ) (from end : ℕ) (output : List ℕ) (r : Progress) : Type 0 where
   pub start-within : from + r .consumed ≤ end
   pub text-within : r .written ≤ length output
-  pub state-after : r .state ≡ linesState state (answers state (part from end input))
-  pub text : take (length (linesText state (answers state (part from end input)))) output ≡ linesText state (answers state (part from end input))
-  pub left : part (from + r .consumed) end input ≡ leftBehind state (part from end input)
-  pub full : ltb (length output - r .written) printedMax ≡ isFull state (part from end input)
+  pub state-after : r .state ≡ linesState state (answers state (between from end input))
+  pub text : take (length (linesText state (answers state (between from end input)))) output ≡ linesText state (answers state (between from end input))
+  pub left : between (from + r .consumed) end input ≡ leftBehind state (between from end input)
+  pub full : ltb (length output - r .written) printedMax ≡ isFull state (between from end input)
 
 -- that is what the contract of `replay_lines` says, in an output buffer of the program's size
 pub learnt : (state : ModuleState) (input before after : List ℕ) (from end : ℕ) (r : Progress) → from ≤ end → end ≤ length input
     → length before ≡ bufferSize → length after ≡ length before
-    → r ≡ progress state (answered state (part from end input) (length before))
-    → after ≡ written before (linesText state (answered state (part from end input) (length before)))
+    → r ≡ progress state (answered state (between from end input) (length before))
+    → after ≡ written before (linesText state (answered state (between from end input) (length before)))
     → Learnt state input from end after r
 unfolding written
 learnt state input before after from end r ordered inside size same result buffer =
-    let chars = part from end input in
+    let chars = between from end input in
     let ls = answers state chars in
     let text = linesText state ls in
     let lines-answered : answered state chars (length before) ≡ ls = ap (answered state chars) size in
@@ -64,13 +64,13 @@ learnt state input before after from end r ordered inside size same result buffe
       text-within = omega (arith, ap length placed, length-append text (drop (length text) before));
       state-after = ap (λ (p : Progress). p .state) told;
       text = ap (take (length text)) placed ∙ written-front before text;
-      left = part-behind input from end (r .consumed) within inside ∙ ap (λ (n : ℕ). drop n chars) consumed;
+      left = between-behind input from end (r .consumed) within inside ∙ ap (λ (n : ℕ). drop n chars) consumed;
       full = rw (same ∙ size, count);
     }
 
 -- what is read stands from the buffer's first place on
 pub refilled : (kept left buffer : List ℕ) (end count : ℕ) (failed : Bool) → left ≡ kept
-    → Refilled (keptOf left) (take end buffer) count failed → Refilled (keptOf kept) (part 0 end buffer) count failed
+    → Refilled (keptOf left) (take end buffer) count failed → Refilled (keptOf kept) (between 0 end buffer) count failed
 refilled kept left buffer end count failed e h = rw (← e, sub-zero) h
 
 -- where a line more would fit, only a line is left that is not finished

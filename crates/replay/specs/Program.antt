@@ -6,6 +6,7 @@ use mathlib.Core.Logic.{_⊎_}
 use mathlib.Core.List.{List, _++_}
 use lib.Dec.{ltb}
 use lib.ListN.{length, take, drop}
+use Rattle.logic.specs.Lists.{part}
 use Rattle.cdi_state.specs.declared.ModuleState.{ModuleState}
 use Rattle.cdi_log.specs.Replay.{linesText, linesState}
 use Rattle.cdi_log.specs.Answered.{printedMax, withLineFeeds, answered}
@@ -16,8 +17,8 @@ abbrev pub bufferSize : ℕ
 bufferSize = 65536
 
 -- the characters of a buffer from one place as far as another
-abbrev pub part : ℕ → ℕ → List ℕ → List ℕ
-part from end buffer = take (end - from) (drop from buffer)
+abbrev pub between : (from end : ℕ) → List ℕ → List ℕ
+between from end buffer = part from (end - from) buffer
 
 -- a read answers how many characters it gave, and whether it failed; none and no failure is the end of the input
 abbrev pub isEnd : (count : ℕ) (failed : Bool) → Bool

@@ -7,7 +7,7 @@ ghost use mathlib.Core.Path.{_≡_};
 ghost use Prim.Native.Nat.{_+_, _<_, _≤_};
 ghost use lib.ListN.{length, take, drop};
 ghost use Rattle.cdi_log.specs.Session.{keptMax, keptOf};
-ghost use Rattle.replay.specs.Program.{bufferSize, part, isEnd, charsAfter, Refilled, Turned};
+ghost use Rattle.replay.specs.Program.{bufferSize, between, isEnd, charsAfter, Refilled, Turned};
 use cdi_replay::PRINTED_MAX;
 use cdi_state::ModuleState;
 use hex_text::LINE_FEED;
@@ -49,7 +49,7 @@ struct Session {
 fn keep(input: &mut [u8], from: usize, end: usize) -> usize
     requires { ⌜ (from ≤ end) × (end ≤ length (now input)) ⌝ }
     ensures { λ r. ⌜ (r ≤ keptMax) × (r ≤ length (now (input .entry)))
-        × (take r (now (input .exit)) ≡ keptOf (part from end (now (input .entry)))) ⌝ }
+        × (take r (now (input .exit)) ≡ keptOf (between from end (now (input .entry)))) ⌝ }
 {
     let mut i = 0;
     while from + i < end && i < KEPT_MAX {
@@ -97,7 +97,7 @@ fn take_in(input: &mut [u8], kept: usize, count: usize, failed: bool) -> usize
 fn refill(input: &mut [u8], from: usize, end: usize) -> Filled
     requires { ⌜ (length (now input) ≡ bufferSize) × (from ≤ end) × (end ≤ bufferSize) ⌝ }
     ensures { λ r. ⌜ (r .end ≤ bufferSize)
-        × Refilled (keptOf (part from end (now (input .entry)))) (take (r .end) (now (input .exit))) (r .count) (r .failed) ⌝ }
+        × Refilled (keptOf (between from end (now (input .entry)))) (take (r .end) (now (input .exit))) (r .count) (r .failed) ⌝ }
 {
     let kept = keep(input, from, end);
     let piece = read_input(input, kept);
@@ -122,8 +122,8 @@ fn turn(session: Session, input: &mut [u8], output: &mut [u8]) -> Session
     requires { ⌜ (length (now input) ≡ bufferSize) × (length (now output) ≡ bufferSize)
         × (session .start ≤ session .end) × (session .end ≤ bufferSize) ⌝ }
     ensures { λ r. ⌜ (r .start ≤ r .end) × (r .end ≤ bufferSize)
-        × Turned (session .state) (part (session .start) (session .end) (now (input .entry))) (session .ended)
-        (now (output .exit)) (r .state) (part (r .start) (r .end) (now (input .exit))) (r .ended) (r .done) (r .printed) (r .count) (r .failed) ⌝ }
+        × Turned (session .state) (between (session .start) (session .end) (now (input .entry))) (session .ended)
+        (now (output .exit)) (r .state) (between (r .start) (r .end) (now (input .exit))) (r .ended) (r .done) (r .printed) (r .count) (r .failed) ⌝ }
 {
     let before = session.state;
     let from = session.start;

@@ -6,12 +6,12 @@ use borrow.Author.Needs.{needs}
 use borrow.Author.Tests.{eq-eqb, ne-eqb, not-true, not-false}
 use lib.Dec.{eqb}
 use lib.ListN.{length}
-use Rattle.logic.specs.Lists.{sameBytes}
+use Rattle.logic.specs.Lists.{sameBytes, part}
 use Rattle.refusal.specs.Refusal.{accepted, refused, invalid}
 use Rattle.cdi_state.specs.declared.ModuleState.{ModuleState}
 use Rattle.cdi_state.specs.Valid.{isValid}
 use Rattle.cdi_store.specs.Store.{stateAtPowerUp}
-use Rattle.cdi_image.specs.Image.{mark, imageSize, part, withImage, validContents, loaded}
+use Rattle.cdi_image.specs.Image.{mark, imageSize, withImage, validContents, loaded}
 use Rattle.cdi_image_load.specs.Load.{loadedAs}
 use Rattle.cdi_image.proofs.Contents.{contents-alone}
 use Rattle.cdi_image_load.proofs.load.Statement.{statement}

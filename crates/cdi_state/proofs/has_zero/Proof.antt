@@ -6,8 +6,8 @@ use mathlib.Core.Bool.{_||_, or-false, or-assoc}
 use native.Mathlib.Omega.{arith}
 use borrow.Author.Needs.{needs}
 use lib.ListN.{drop}
+use Rattle.logic.specs.Lists.{hasZero}
 use Rattle.logic.proofs.Rest.{one-more, nothing-left}
-use Rattle.cdi_state.specs.Valid.{hasZero}
 use Rattle.cdi_state.proofs.has_zero.Statement.{statement}
 use Rattle.cdi_state.proofs.has_zero.Tie as tie
 

@@ -2,7 +2,8 @@
 -- Assumes nothing.
 use mathlib.Core.Path.{_≡_}
 use borrow.Author.Needs.{needs}
-use Rattle.cdi_image.specs.Image.{part, imageName, imageSlots}
+use Rattle.logic.specs.Lists.{part}
+use Rattle.cdi_image.specs.Image.{imageName, imageSlots}
 use Rattle.cdi_image_load.proofs.read.with_image.Statement.{statement}
 use Rattle.cdi_image_load.proofs.read.with_image.Tie as tie
 
