@@ -7,6 +7,7 @@ use mathlib.Core.Bool.{Bool, true, false, cond, Bool·beq}
 use lib.ListN.{replicate}
 use Rattle.logic.specs.Lists.{below, all}
 use Rattle.refusal.specs.Refusal.{accepted}
+use Rattle.cdi_item.specs.Items.{slotCount}
 use Rattle.cdi_state.specs.declared.Settings.{Settings}
 use Rattle.cdi_state.specs.declared.ModuleState.{ModuleState}
 use Rattle.cdi_state.specs.State.{factoryState, ArrayLengths, FieldLengths}
@@ -65,7 +66,7 @@ sampleState = record {
   address = 0x41 ∷ 0x42 ∷ 0x43 ∷ 0x44 ∷ [];
   nv = sampleSettings;
   working = factoryState .working;
-  slots = map (λ i. record { address = i ∷ 0x82 ∷ 0x83 ∷ 0x84 ∷ []; mask = 0x85 }) (below 40 []);
+  slots = map (λ i. record { address = i ∷ 0x82 ∷ 0x83 ∷ 0x84 ∷ []; mask = 0x85 }) (below slotCount []);
   lines = replicate 2 0;
   rssi = replicate 2 0;
   ladj = 0;
@@ -81,7 +82,7 @@ SampleImage =
     0x53 ∷ 0x57 ∷ 0x42 ∷ 0x00 ∷ 0x01 ∷
     replicate 16 0x11 ++ 0x12 ∷ 0x21 ∷ 0x22 ∷ 0x23 ∷ 0x31 ∷ 0x32 ∷ 0x33 ∷ 0x34 ∷ 0x41 ∷ 0x42 ∷ 0x43 ∷ 0x44 ∷
     0x51 ∷ 0x52 ∷ 0x53 ∷ 0x54 ∷ 0x55 ∷ 0x61 ∷ 0x62 ∷ 0x63 ∷ 0x64 ∷ 0x65 ∷ 0x71 ∷ 0x72 ∷ 0x73 ∷ 0x74 ∷ 0x75 ∷
-    flatMap (λ i. i ∷ 0x82 ∷ 0x83 ∷ 0x84 ∷ 0x85 ∷ []) (below 40 []) ++ 0x56 ∷ []
+    flatMap (λ i. i ∷ 0x82 ∷ 0x83 ∷ 0x84 ∷ 0x85 ∷ []) (below slotCount []) ++ 0x56 ∷ []
 
 -- what Save writes Load takes, on any state, and gives back the same cells. The lengths are those that every state of a program has
 pub record Reloaded (s t : ModuleState) (image : List ℕ) : Type 0 where

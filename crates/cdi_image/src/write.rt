@@ -2,11 +2,11 @@
 // right behind it.
 ghost use mathlib.Core.Path.{_≡_};
 ghost use mathlib.Core.List.{_++_, flatMap};
-ghost use Prim.Native.Nat.{_+_, _≤_};
+ghost use Prim.Native.Nat.{_+_, _-_, _≤_};
 ghost use lib.ListN.{length};
 ghost use lib.Seq.{sets};
 ghost use Rattle.cdi_state.specs.State.{slotBytes};
-ghost use Rattle.cdi_image.specs.Image.{mark, version, imageSize, imageOf};
+ghost use Rattle.cdi_image.specs.Image.{mark, version, imageSize, imageOf, nameAt, settingsAt, slotsAt, interruptMaskAt};
 ghost use Rattle.cdi_image.specs.Parts.{identityBytes, settingsBytes};
 use super::ADDRESS_AT;
 use super::FIRMWARE_AT;
@@ -46,7 +46,7 @@ fn write_head(image: &mut [u8])
 
 fn write_identity(state: ModuleState, image: &mut [u8])
     requires { ⌜ imageSize ≤ length (now image) ⌝ }
-    ensures { λ _. ⌜ (length (identityBytes state) ≡ 28) × (now (image .exit) ≡ sets (now (image .entry)) 5 (identityBytes state)) ⌝ }
+    ensures { λ _. ⌜ (length (identityBytes state) ≡ settingsAt - nameAt) × (now (image .exit) ≡ sets (now (image .entry)) nameAt (identityBytes state)) ⌝ }
 {
     let name = state.name;
     let firmware = state.firmware;
@@ -60,7 +60,7 @@ fn write_identity(state: ModuleState, image: &mut [u8])
 
 fn write_settings(settings: Settings, image: &mut [u8])
     requires { ⌜ imageSize ≤ length (now image) ⌝ }
-    ensures { λ _. ⌜ (length (settingsBytes settings) ≡ 15) × (now (image .exit) ≡ sets (now (image .entry)) 33 (settingsBytes settings)) ⌝ }
+    ensures { λ _. ⌜ (length (settingsBytes settings) ≡ slotsAt - settingsAt) × (now (image .exit) ≡ sets (now (image .entry)) settingsAt (settingsBytes settings)) ⌝ }
 {
     let single = [
         settings.line_mask,
@@ -80,7 +80,7 @@ fn write_settings(settings: Settings, image: &mut [u8])
 
 fn write_slots(slots: [Slot; 40], image: &mut [u8])
     requires { ⌜ imageSize ≤ length (now image) ⌝ }
-    ensures { λ _. ⌜ (length (flatMap slotBytes slots) ≡ 200) × (now (image .exit) ≡ sets (now (image .entry)) 48 (flatMap slotBytes slots)) ⌝ }
+    ensures { λ _. ⌜ (length (flatMap slotBytes slots) ≡ interruptMaskAt - slotsAt) × (now (image .exit) ≡ sets (now (image .entry)) slotsAt (flatMap slotBytes slots)) ⌝ }
 {
     let mut i: usize = 0;
     while i < SLOT_COUNT {

@@ -1,8 +1,10 @@
 // Reading an image: whether it is one, and the state with its cells.
 ghost use mathlib.Core.Path.{_≡_};
+ghost use Prim.Native.Nat.{_-_, _*_};
 ghost use lib.ListN.{length};
 ghost use Rattle.logic.specs.Lists.{sameBytes, part};
-ghost use Rattle.cdi_image.specs.Image.{mark, version, imageSize, slotIn, inputIn, slotsIn, imageSettings, withImage};
+ghost use Rattle.cdi_item.specs.Items.{nameLength, rowLength, slotCount};
+ghost use Rattle.cdi_image.specs.Image.{mark, version, imageSize, versionAt, nameAt, slotIn, inputIn, slotsIn, imageSettings, withImage};
 use cdi_image::ADDRESS_AT;
 use cdi_image::FIRMWARE_AT;
 use cdi_image::INPUT_1_AT;
@@ -24,21 +26,21 @@ use cdi_state::Slot;
 
 pub(crate) fn has_mark(image: &[u8]) -> bool
     requires { ⌜ length (now image) ≡ imageSize ⌝ }
-    ensures { λ r. ⌜ r ≡ sameBytes (part 0 3 (now (image .entry))) mark ⌝ }
+    ensures { λ r. ⌜ r ≡ sameBytes (part 0 versionAt (now (image .entry))) mark ⌝ }
 {
     (image[0] == MARK[0]) & (image[1] == MARK[1]) & (image[2] == MARK[2])
 }
 
 pub(crate) fn has_version(image: &[u8]) -> bool
     requires { ⌜ length (now image) ≡ imageSize ⌝ }
-    ensures { λ r. ⌜ r ≡ sameBytes (part 3 2 (now (image .entry))) version ⌝ }
+    ensures { λ r. ⌜ r ≡ sameBytes (part versionAt (nameAt - versionAt) (now (image .entry))) version ⌝ }
 {
     (image[VERSION_AT] == VERSION[0]) & (image[VERSION_AT + 1] == VERSION[1])
 }
 
 // Parts of an image as arrays, rows and settings.
 fn name_in(source: &[u8]) -> [u8; 17]
-    requires { ⌜ length (now source) ≡ 17 ⌝ }
+    requires { ⌜ length (now source) ≡ nameLength ⌝ }
     ensures { λ r. ⌜ r ≡ now (source .entry) ⌝ }
 {
     let mut name = [0; 17];
@@ -61,7 +63,7 @@ fn four_in(bytes: &[u8]) -> [u8; 4]
 }
 
 fn slot_in(row: &[u8]) -> Slot
-    requires { ⌜ length (now row) ≡ 5 ⌝ }
+    requires { ⌜ length (now row) ≡ rowLength ⌝ }
     ensures { λ r. ⌜ r ≡ slotIn (now (row .entry)) ⌝ }
 {
     Slot {
@@ -71,7 +73,7 @@ fn slot_in(row: &[u8]) -> Slot
 }
 
 fn input_in(row: &[u8]) -> AnalogInput
-    requires { ⌜ length (now row) ≡ 5 ⌝ }
+    requires { ⌜ length (now row) ≡ rowLength ⌝ }
     ensures { λ r. ⌜ r ≡ inputIn (now (row .entry)) ⌝ }
 {
     AnalogInput {
@@ -83,8 +85,8 @@ fn input_in(row: &[u8]) -> AnalogInput
 }
 
 fn slots_in(rows: &[u8]) -> [Slot; 40]
-    requires { ⌜ length (now rows) ≡ 200 ⌝ }
-    ensures { λ r. ⌜ r ≡ slotsIn 40 (now (rows .entry)) ⌝ }
+    requires { ⌜ length (now rows) ≡ slotCount * rowLength ⌝ }
+    ensures { λ r. ⌜ r ≡ slotsIn slotCount (now (rows .entry)) ⌝ }
 {
     let mut slots = [Slot::EMPTY; 40];
     let mut i: usize = 0;

@@ -1,7 +1,8 @@
 -- Document 01, "Who reads and stores which cell": the 68 cells.
 use Prim.Native.Nat.{ℕ}
 use mathlib.Core.Bool.{Bool, true, false, cond, _&&_}
-use lib.Dec.{eqb, ltb, leb}
+use lib.Dec.{eqb}
+use Rattle.cdi_item.specs.Items.{isSlotIndex, isInputNumber}
 
 -- 01's N, the non-volatile copy, and V, the working one
 pub data Copy : Type 0 where
@@ -40,8 +41,8 @@ readCopy k = cond (hasWorking k) working nv
 -- two inputs, from 1 on, and forty slots, from 0 on; a key with another number names no cell
 abbrev pub isKey : Key → Bool
 isKey (setting s) = true
-isKey (input n) = leb 1 n && leb n 2
-isKey (slot i) = ltb i 40
+isKey (input n) = isInputNumber n
+isKey (slot i) = isSlotIndex i
 isKey address = true
 
 abbrev pub isCell : Cell → Bool

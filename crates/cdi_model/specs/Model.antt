@@ -8,14 +8,16 @@ use lib.ListN.{length, drop}
 use Rattle.logic.specs.Lists.{allBelow, hasZero}
 use Rattle.logic.specs.Written.{written}
 use Rattle.refusal.specs.Refusal.{Result, accepted as acceptedAs, refused, none, invalid, responseBufferShort}
+use Rattle.cdi_item.specs.Items.{slotCount}
 use Rattle.cdi_frame.specs.declared.Span.{Span}
 use Rattle.cdi_frame.specs.Frame.{wakeLimit, readFrame, payloadIn}
 use Rattle.cdi_frame.specs.Layout.{responseFrame}
 use Rattle.cdi_command.specs.declared.Command.{Command}
 use Rattle.cdi_command.specs.Command.{validatePayload}
+use Rattle.cdi_command.specs.Payload.{readResponse, readNvResponse, ackResponse, noError}
 use Rattle.sequence.specs.Model.{Model}
 use Rattle.cdi_model.specs.Cells.{Copy, nv, working, lineMask, latchMask, txPower, controlSource, messageSelect, interruptMask, Key, setting, input, slot, Single, name, firmware, serial, lines, rssi, ladj, events, flags, hardwarePower, hardwareLineMask, hardwareLatchMask, Cell, stored, single}
-use Rattle.cdi_model.specs.Values.{byteOf, accepted, acceptedFlags, defaultValue, emptySlot, upToZero, statusBytes}
+use Rattle.cdi_model.specs.Values.{byteOf, accepted, acceptedFlags, defaultValue, emptySlot, noRssi, upToZero, statusBytes}
 use Rattle.cdi_model.specs.Step.{Step, powerUp, command, StepResult, poweredUp, responded}
 use Rattle.cdi_model.specs.Action.{Action, read, readNv, readStatus, write, program, setDefault, eraseAll, actionOf}
 use Rattle.cdi_model.specs.Table.{Decision, refuse, execute, executePowerUp, isAccepted, reads, stores}
@@ -36,7 +38,7 @@ validCopy s copy =
 -- the stored name has a 00, both copies and all slots hold accepted values, and so do the flags
 unfoldable pub isValid : Cells → Bool
 isValid s =
-    (((hasZero (s (single name)) && validCopy s nv) && validCopy s working) && allBelow 40 (λ i. holdsAccepted s nv (slot i))) &&
+    (((hasZero (s (single name)) && validCopy s nv) && validCopy s working) && allBelow slotCount (λ i. holdsAccepted s nv (slot i))) &&
     acceptedFlags (byteOf (s (single flags)))
 
 -- ---- decisions, in the order of the refusals
@@ -81,13 +83,13 @@ actionGives (program k v) c = v
 actionGives setDefault c = defaultOf c
 actionGives eraseAll c = emptySlot
 
--- both RSSI bytes 80, flags and events 00
+-- RSSI 80 80, flags and events 00
 abbrev pub singleAtPowerUp : Single → List ℕ
 singleAtPowerUp name = []
 singleAtPowerUp firmware = []
 singleAtPowerUp serial = []
 singleAtPowerUp lines = []
-singleAtPowerUp rssi = 0x80 ∷ 0x80 ∷ []
+singleAtPowerUp rssi = noRssi
 singleAtPowerUp ladj = []
 singleAtPowerUp events = 0x00 ∷ []
 singleAtPowerUp flags = 0x00 ∷ []
@@ -150,13 +152,13 @@ valueRead s executePowerUp = []
 -- the payload of a response. To a read command: its kind, then the command's payload without its code, which is the item and the index
 -- if there is one, then the value. To any other command: two bytes, and its payload
 unfoldable pub responsePayload : List ℕ → Action → List ℕ → List ℕ
-responsePayload payload (read d) v = 0xC1 ∷ drop 1 payload ++ v
-responsePayload payload (readNv d) v = 0xC2 ∷ drop 1 payload ++ v
-responsePayload payload readStatus v = 0xC1 ∷ drop 1 payload ++ v
-responsePayload payload (write k w) v = 0xC0 ∷ 0x00 ∷ payload
-responsePayload payload (program k w) v = 0xC0 ∷ 0x00 ∷ payload
-responsePayload payload setDefault v = 0xC0 ∷ 0x00 ∷ payload
-responsePayload payload eraseAll v = 0xC0 ∷ 0x00 ∷ payload
+responsePayload payload (read d) v = readResponse ∷ drop 1 payload ++ v
+responsePayload payload (readNv d) v = readNvResponse ∷ drop 1 payload ++ v
+responsePayload payload readStatus v = readResponse ∷ drop 1 payload ++ v
+responsePayload payload (write k w) v = ackResponse ∷ noError ∷ payload
+responsePayload payload (program k w) v = ackResponse ∷ noError ∷ payload
+responsePayload payload setDefault v = ackResponse ∷ noError ∷ payload
+responsePayload payload eraseAll v = ackResponse ∷ noError ∷ payload
 
 abbrev pub refusalOf : Decision → ℕ
 refusalOf (refuse n) = n

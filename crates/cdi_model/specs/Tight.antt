@@ -9,7 +9,8 @@ use lib.ListN.{take, replicate}
 use Rattle.logic.specs.Lists.{all, below, sameBytes}
 use Rattle.refusal.specs.Refusal.{valueNotAccepted}
 use Rattle.cdi_item.specs.declared.Item.{Item}
-use Rattle.cdi_item.specs.Items.{items, permitted}
+use Rattle.cdi_item.specs.Items.{items, slotCount, permitted}
+use Rattle.cdi_item.specs.Bits.{powerFromSetting, lineMaskFromSetting, latchMaskFromSetting}
 use Rattle.cdi_command.specs.Command as code
 use Rattle.cdi_command.specs.Command.{markOf, carriesValue, takesIndex}
 use Rattle.cdi_model.specs.Cells.{Copy, nv, working, Setting, lineMask, latchMask, txPower, controlSource, messageSelect, interruptMask, Key, setting, input, slot, address, Single, name, firmware, serial, lines, rssi, ladj, events, flags, hardwarePower, hardwareLineMask, hardwareLatchMask, Cell, stored, single, same}
@@ -38,7 +39,7 @@ everySingle =
     name ∷ firmware ∷ serial ∷ lines ∷ rssi ∷ ladj ∷ events ∷ flags ∷ hardwarePower ∷ hardwareLineMask ∷ hardwareLatchMask ∷ []
 
 unfoldable pub everyCell : List Cell
-everyCell = map (stored working) copiedKeys ++ map (stored nv) (copiedKeys ++ map slot (below 40 []) ++ address ∷ []) ++ map single everySingle
+everyCell = map (stored working) copiedKeys ++ map (stored nv) (copiedKeys ++ map slot (below slotCount []) ++ address ∷ []) ++ map single everySingle
 
 abbrev pub isIn : Cell → List Cell → Bool
 isIn c cs = any (same c) cs
@@ -115,12 +116,12 @@ stateOf n control (single x) = singleIn n x
 abbrev pub base : ℕ → Cells
 base control = stateOf 1 control
 
--- bits 0, 3 and 4 of the control source clear, and set
+-- the three bits of the control source clear, and set
 abbrev pub hardwareShown : ℕ
 hardwareShown = 0x00
 
 abbrev pub workingShown : ℕ
-workingShown = 0x19
+workingShown = powerFromSetting + lineMaskFromSetting + latchMaskFromSetting
 
 abbrev pub other : Cells
 other = stateOf 3 0x04

@@ -9,6 +9,7 @@ use lib.ListN.{getD, take, drop}
 use lib.Signed.{leZ}
 use Rattle.logic.specs.Lists.{allZero}
 use Rattle.logic.specs.Signed.{signed}
+use Rattle.cdi_item.specs.Bits.{powerFromSetting, lineMaskFromSetting, latchMaskFromSetting, eventFlag, modeMask, modeMax, flagsZero}
 use Rattle.cdi_model.specs.Cells.{Setting, lineMask, latchMask, txPower, controlSource, messageSelect, interruptMask, Key, setting, input, slot, address}
 
 -- the first byte of a value
@@ -43,7 +44,7 @@ accepted address v = true
 
 -- of the live flags the lowest three bits are the mode; three other bits are always clear
 abbrev pub acceptedFlags : ℕ → Bool
-acceptedFlags flags = leb (bitAnd flags 0x07) 4 && eqb (bitAnd flags 0xC8) 0
+acceptedFlags flags = leb (bitAnd flags modeMask) modeMax && eqb (bitAnd flags flagsZero) 0
 
 -- ---- what Set Default stores: 00 00 00 06 00 in 11 to 15, FF 01 00 00 00 in each row of 16, 00 in 25
 abbrev pub defaultSetting : Setting → ℕ
@@ -64,6 +65,10 @@ defaultValue address = []
 abbrev pub emptySlot : List ℕ
 emptySlot = 0x00 ∷ 0x00 ∷ 0x00 ∷ 0x00 ∷ 0x00 ∷ []
 
+-- both RSSI bytes where no signal was measured
+abbrev pub noRssi : List ℕ
+noRssi = 0x80 ∷ 0x80 ∷ []
+
 -- ---- what is read
 -- a name ends with its first 00
 unfoldable pub upToZero : List ℕ → List ℕ
@@ -78,7 +83,7 @@ isSet mask byte = not (eqb (bitAnd byte mask) 0)
 -- value and the hardware's: bits 0, 3 and 4 of the working control source say which of the two
 abbrev pub statusBytes : (flags events interrupt control power hardwarePower line hardwareLine latch hardwareLatch : ℕ) → List ℕ
 statusBytes flags events interrupt control power hardwarePower line hardwareLine latch hardwareLatch =
-    cond (isSet interrupt events) (bitOr flags 0x80) flags ∷
-    cond (isSet 0x01 control) power hardwarePower ∷
-    cond (isSet 0x08 control) line hardwareLine ∷
-    cond (isSet 0x10 control) latch hardwareLatch ∷ []
+    cond (isSet interrupt events) (bitOr flags eventFlag) flags ∷
+    cond (isSet powerFromSetting control) power hardwarePower ∷
+    cond (isSet lineMaskFromSetting control) line hardwareLine ∷
+    cond (isSet latchMaskFromSetting control) latch hardwareLatch ∷ []

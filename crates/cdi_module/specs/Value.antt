@@ -2,6 +2,7 @@
 use Prim.Native.Nat.{ℕ}
 use mathlib.Core.List.{List, []}
 use lib.ListN.{getD}
+use Rattle.cdi_item.specs.Items.{rowLength}
 use Rattle.cdi_command.specs.declared.Index.{Index}
 use Rattle.cdi_command.specs.declared.Index.the-variants.{Slot, Input}
 use Rattle.cdi_command.specs.declared.Command.{Command}
@@ -9,7 +10,7 @@ use Rattle.cdi_command.specs.declared.Command.the-variants.{Read, ReadIndexed, 
 use Rattle.cdi_state.specs.declared.Settings.{Settings}
 use Rattle.cdi_state.specs.declared.ModuleState.{ModuleState}
 use Rattle.cdi_state.specs.State.{inputBytes, slotBytes, inputAt, noSlot}
-use Rattle.cdi_value.specs.Value.{plainValue, valueMax, rowLength}
+use Rattle.cdi_value.specs.Value.{plainValue, valueMax}
 
 -- a row of an indexed item
 abbrev pub rowValue : ModuleState → Settings → Index → List ℕ

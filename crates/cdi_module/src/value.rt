@@ -1,8 +1,9 @@
 // The value that a command reads: document 01, "Items".
 ghost use mathlib.Core.Path.{_≡_};
 ghost use mathlib.Core.Bool.{true};
+ghost use Rattle.cdi_item.specs.Items.{rowLength};
 ghost use Rattle.cdi_command.specs.Payload.{fits, WellFormed};
-ghost use Rattle.cdi_value.specs.Value.{rowLength, Shows};
+ghost use Rattle.cdi_value.specs.Value.{Shows};
 ghost use Rattle.cdi_module.specs.Value.{rowValue, valueRead, valueRoom};
 use cdi_command::Command;
 use cdi_command::Index;

@@ -61,7 +61,7 @@ defaultSettings = record {
   «tx_power» = 0;
   «control_source» = 0x06;
   «message_select» = 0;
-  «analog_inputs» = replicate 2 defaultInput;
+  «analog_inputs» = replicate item.inputCount defaultInput;
   «interrupt_mask» = 0;
 }
 
@@ -75,13 +75,13 @@ noRssi = replicate 2 0x80
 -- the settings as Set Default leaves them, RSSI 80 80, and every other byte 00
 abbrev pub factoryState : ModuleState
 factoryState = record {
-  name = replicate 17 0;
+  name = replicate item.nameLength 0;
   firmware = replicate 3 0;
   serial = replicate 4 0;
   address = replicate 4 0;
   nv = defaultSettings;
   working = defaultSettings;
-  slots = replicate 40 emptySlot;
+  slots = replicate item.slotCount emptySlot;
   lines = replicate 2 0;
   rssi = noRssi;
   ladj = 0;
@@ -92,18 +92,18 @@ factoryState = record {
 
 -- The lengths of the arrays of structs: a list of a definition can have any, a state of a program has these.
 pub record ArrayLengths (s : ModuleState) : Type 0 where
-  pub nv-inputs : length (s .nv .«analog_inputs») ≡ 2
-  pub working-inputs : length (s .working .«analog_inputs») ≡ 2
-  pub slot-count : length (s .slots) ≡ 40
+  pub nv-inputs : length (s .nv .«analog_inputs») ≡ item.inputCount
+  pub working-inputs : length (s .working .«analog_inputs») ≡ item.inputCount
+  pub slot-count : length (s .slots) ≡ item.slotCount
 
 -- the lengths of the arrays of bytes
 pub record FieldLengths (s : ModuleState) : Type 0 where
-  pub name-length : length (s .name) ≡ 17
+  pub name-length : length (s .name) ≡ item.nameLength
   pub firmware-length : length (s .firmware) ≡ 3
   pub serial-length : length (s .serial) ≡ 4
   pub address-length : length (s .address) ≡ 4
   pub lines-length : length (s .lines) ≡ 2
   pub rssi-length : length (s .rssi) ≡ 2
-  pub nv-offset-length : (i : ℕ) → i < 2 → length (getD (s .nv .«analog_inputs») i noInput .offset) ≡ 2
-  pub working-offset-length : (i : ℕ) → i < 2 → length (getD (s .working .«analog_inputs») i noInput .offset) ≡ 2
-  pub slot-address-length : (i : ℕ) → i < 40 → length (getD (s .slots) i noSlot .address) ≡ 4
+  pub nv-offset-length : (i : ℕ) → i < item.inputCount → length (getD (s .nv .«analog_inputs») i noInput .offset) ≡ 2
+  pub working-offset-length : (i : ℕ) → i < item.inputCount → length (getD (s .working .«analog_inputs») i noInput .offset) ≡ 2
+  pub slot-address-length : (i : ℕ) → i < item.slotCount → length (getD (s .slots) i noSlot .address) ≡ 4

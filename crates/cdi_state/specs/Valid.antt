@@ -7,6 +7,7 @@ use lib.Dec.{eqb, leb}
 use lib.ListN.{getD}
 use Rattle.logic.specs.Lists.{hasZero}
 use Rattle.cdi_item.specs.Items.{txPower, controlSource, messageSelect, analogInput, pairedModule}
+use Rattle.cdi_item.specs.Bits.{modeMask, modeMax, flagsZero}
 use Rattle.cdi_item.specs.Values.{acceptedValue}
 use Rattle.cdi_state.specs.declared.Slot.{Slot}
 use Rattle.cdi_state.specs.declared.AnalogInput.{AnalogInput}
@@ -35,7 +36,7 @@ validSlots (s ∷ ss) = validSlot s && validSlots ss
 
 -- the mode, bits 0 to 2, is at most 4, and bits 3, 6 and 7 are zero
 abbrev pub validFlags : ℕ → Bool
-validFlags flags = leb (bitAnd flags 0x07) 4 && eqb (bitAnd flags 0xC8) 0
+validFlags flags = leb (bitAnd flags modeMask) modeMax && eqb (bitAnd flags flagsZero) 0
 
 -- the name has a 00, both copies of the settings and all slots hold accepted values, and so do the flags
 unfoldable pub isValid : ModuleState → Bool

@@ -146,7 +146,7 @@ abbrev pub defaulted : ModuleState → ModuleState
 defaulted s = withSettings s defaultSettings defaultSettings
 
 abbrev pub erased : ModuleState → ModuleState
-erased s = withSlots s (replicate 40 emptySlot)
+erased s = withSlots s (replicate item.slotCount emptySlot)
 
 abbrev pub stateAfter : ModuleState → Command → ModuleState
 stateAfter s (Read x) = s

@@ -7,6 +7,7 @@ use lib.Bits.{bitAnd, bitOr}
 use lib.Dec.{eqb}
 use lib.ListN.{getD, take}
 use Rattle.cdi_item.specs.Items as item
+use Rattle.cdi_item.specs.Bits.{powerFromSetting, lineMaskFromSetting, latchMaskFromSetting, eventFlag}
 use Rattle.cdi_state.specs.declared.Settings.{Settings}
 use Rattle.cdi_state.specs.declared.HardwareSelection.{HardwareSelection}
 use Rattle.cdi_state.specs.declared.ModuleState.{ModuleState}
@@ -26,10 +27,10 @@ nameShown (b ∷ bs) = cond (eqb b 0) (b ∷ []) (b ∷ nameShown bs)
 -- hardware where its bit of the control source is 0, else the working value
 unfoldable pub statusShown : Settings → HardwareSelection → (flags events : ℕ) → List ℕ
 statusShown t h flags events =
-    cond (eqb (bitAnd events (t .«interrupt_mask»)) 0) flags (bitOr flags 0x80) ∷
-    cond (eqb (bitAnd (t .«control_source») 0x01) 0) (h .power) (t .«tx_power») ∷
-    cond (eqb (bitAnd (t .«control_source») 0x08) 0) (h .«line_mask») (t .«line_mask») ∷
-    cond (eqb (bitAnd (t .«control_source») 0x10) 0) (h .«latch_mask») (t .«latch_mask») ∷ []
+    cond (eqb (bitAnd events (t .«interrupt_mask»)) 0) flags (bitOr flags eventFlag) ∷
+    cond (eqb (bitAnd (t .«control_source») powerFromSetting) 0) (h .power) (t .«tx_power») ∷
+    cond (eqb (bitAnd (t .«control_source») lineMaskFromSetting) 0) (h .«line_mask») (t .«line_mask») ∷
+    cond (eqb (bitAnd (t .«control_source») latchMaskFromSetting) 0) (h .«latch_mask») (t .«latch_mask») ∷ []
 
 -- an item that has no index, its settings of one copy
 unfoldable pub plainValue : ModuleState → Settings → ℕ → List ℕ
@@ -46,12 +47,9 @@ plainValue s t code =
     (settingByte t code ∷ [])))))))))
 
 -- ---- a value as it is handed on
--- the longest value is a name, and a row has five bytes
+-- the longest value is a name
 abbrev pub valueMax : ℕ
-valueMax = 17
-
-abbrev pub rowLength : ℕ
-rowLength = 5
+valueMax = item.nameLength
 
 abbrev pub shownBytes : Shown → List ℕ
 shownBytes x = take (x .length) (x .bytes)
