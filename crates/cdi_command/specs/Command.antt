@@ -36,6 +36,16 @@ setDefault = 0x81
 abbrev pub eraseAll : ℕ
 eraseAll = 0x82
 
+-- a payload's first bytes: the code, the item, and the index where the item has one
+abbrev pub payloadCode : List ℕ → ℕ
+payloadCode s = getD s 0 0
+
+abbrev pub payloadItem : List ℕ → ℕ
+payloadItem s = getD s 1 0
+
+abbrev pub payloadIndex : List ℕ → ℕ
+payloadIndex s = getD s 2 0
+
 -- each case of the answer: the command, or the number of the refusal
 abbrev pub validatedResult : Validated → Result Command
 validatedResult (Accepted c) = accepted c
@@ -96,9 +106,9 @@ unfoldable pub validateItem : ℕ → List ℕ → Item → Result Command
 validateItem code s item =
     cond (not (permitted item (markOf code))) (refused notPermitted)
     (cond (not (eqb (length s) (expectedLength item code))) (refused wrongLength)
-    (cond (not (takesIndex item (getD s 2 0))) (refused wrongIndex)
+    (cond (not (takesIndex item (payloadIndex s))) (refused wrongIndex)
     (cond (not (takesValue item code (valueOf item s))) (refused valueNotAccepted)
-    (accepted (commandOn item code (valueOf item s) (getD s 2 0))))))
+    (accepted (commandOn item code (valueOf item s) (payloadIndex s))))))
 
 -- Set Default and Erase All Addresses are about no item (house)
 abbrev pub hasNoItem : ℕ → Bool
@@ -115,8 +125,8 @@ isHeadLengthRight code n = cond (hasNoItem code) (eqb n 1) (leb 2 n)
 unfoldable pub validatePayload : List ℕ → Result Command
 validatePayload s =
     cond (eqb (length s) 0) (refused endsEarly)
-    (cond (not (isServed (getD s 0 0))) (refused commandNotServed)
-    (cond (not (isHeadLengthRight (getD s 0 0) (length s))) (refused wrongLength)
-    (cond (eqb (getD s 0 0) setDefault) (accepted SetDefault)
-    (cond (eqb (getD s 0 0) eraseAll) (accepted EraseAll)
-    (andThen (itemOf (getD s 1 0)) (validateItem (getD s 0 0) s))))))
+    (cond (not (isServed (payloadCode s))) (refused commandNotServed)
+    (cond (not (isHeadLengthRight (payloadCode s) (length s))) (refused wrongLength)
+    (cond (eqb (payloadCode s) setDefault) (accepted SetDefault)
+    (cond (eqb (payloadCode s) eraseAll) (accepted EraseAll)
+    (andThen (itemOf (payloadItem s)) (validateItem (payloadCode s) s))))))

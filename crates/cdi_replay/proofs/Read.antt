@@ -12,13 +12,13 @@ use Rattle.logic.proofs.Written.{written-front}
 use Rattle.bytes.specs.Bytes.{indexOf}
 use Rattle.hex_text.specs.declared.HexLine.{HexLine}
 use Rattle.hex_text.specs.declared.HexLine.the-variants.{NoRoom}
-use Rattle.hex_text.specs.Hex.{Line, block, notHex, hexLine, lineFeed, lineFrom, lineEnd, lineAnswer, lineWritten}
+use Rattle.hex_text.specs.Hex.{Line, block, notHex, hexLine, lineFeed, lineFrom, lineEnd, hexLineFor, lineWritten}
 use Rattle.hex_text.proofs.Laws.{room-enough}
 use Rattle.cdi_replay.specs.Progress.{blockMax, lineRead, ReadWithin}
 use Rattle.cdi_log.proofs.Lines.{line-within}
 
-held : (line : Line) (buffer : List ℕ) → (lineAnswer line (length buffer) ≡ NoRoom → ⊥)
-    → (lineRead (lineAnswer line (length buffer)) (lineWritten line buffer) ≡ line) × ReadWithin (lineAnswer line (length buffer)) (length buffer)
+held : (line : Line) (buffer : List ℕ) → (hexLineFor line (length buffer) ≡ NoRoom → ⊥)
+    → (lineRead (hexLineFor line (length buffer)) (lineWritten line buffer) ≡ line) × ReadWithin (hexLineFor line (length buffer)) (length buffer)
 held notHex buffer fits = (refl, tt)
 held (block bytes) buffer fits =
     by-cases (leb (length bytes) (length buffer))
@@ -34,7 +34,7 @@ pub record NextLine (input buffer : List ℕ) (start end : ℕ) (line : HexLine)
 
 -- a buffer of 200 bytes has room for it
 pub next-read : (input buffer after : List ℕ) (start end : ℕ) (line : HexLine) → start ≤ length input → length buffer ≡ blockMax
-    → length after ≡ length buffer → end ≡ lineEnd start input → line ≡ lineAnswer (hexLine (lineFrom start input)) (length buffer)
+    → length after ≡ length buffer → end ≡ lineEnd start input → line ≡ hexLineFor (hexLine (lineFrom start input)) (length buffer)
     → after ≡ lineWritten (hexLine (lineFrom start input)) buffer → NextLine input after start end line
 next-read input buffer after start end line within size kept place answer bytes =
     let chars = lineFrom start input in

@@ -17,53 +17,19 @@ use Rattle.cdi_state.specs.declared.AnalogInput.{AnalogInput}
 use Rattle.cdi_state.specs.declared.Slot.{Slot}
 use Rattle.cdi_state.specs.declared.Settings.{Settings}
 use Rattle.cdi_state.specs.declared.ModuleState.{ModuleState}
-use Rattle.cdi_store.specs.declared.Setting.{Setting}
-use Rattle.cdi_store.specs.declared.Setting.the-variants.{Byte, Row}
+use Rattle.cdi_store.specs.declared.SettingField.{SettingField}
+use Rattle.cdi_store.specs.declared.SettingField.the-variants.{Byte, Row}
 use Rattle.cdi_state.specs.State.{settingBytes, place, defaultSettings, emptySlot, noRssi}
 
--- ---- a state with some of its parts replaced
-abbrev pub withAddress : ModuleState → List ℕ → ModuleState
-withAddress s a = record {
+-- ---- a state with the parts replaced that commands store in
+abbrev pub replaced : ModuleState → (address : List ℕ) (nv working : Settings) (slots : List Slot) → ModuleState
+replaced s a n w l = record {
   name = s .name;
   firmware = s .firmware;
   serial = s .serial;
   address = a;
-  nv = s .nv;
-  working = s .working;
-  slots = s .slots;
-  lines = s .lines;
-  rssi = s .rssi;
-  ladj = s .ladj;
-  events = s .events;
-  flags = s .flags;
-  hardware = s .hardware;
-}
-
-abbrev pub withSettings : ModuleState → (nv working : Settings) → ModuleState
-withSettings s n w = record {
-  name = s .name;
-  firmware = s .firmware;
-  serial = s .serial;
-  address = s .address;
   nv = n;
   working = w;
-  slots = s .slots;
-  lines = s .lines;
-  rssi = s .rssi;
-  ladj = s .ladj;
-  events = s .events;
-  flags = s .flags;
-  hardware = s .hardware;
-}
-
-abbrev pub withSlots : ModuleState → List Slot → ModuleState
-withSlots s l = record {
-  name = s .name;
-  firmware = s .firmware;
-  serial = s .serial;
-  address = s .address;
-  nv = s .nv;
-  working = s .working;
   slots = l;
   lines = s .lines;
   rssi = s .rssi;
@@ -72,6 +38,15 @@ withSlots s l = record {
   flags = s .flags;
   hardware = s .hardware;
 }
+
+abbrev pub withAddress : ModuleState → List ℕ → ModuleState
+withAddress s a = replaced s a (s .nv) (s .working) (s .slots)
+
+abbrev pub withSettings : ModuleState → (nv working : Settings) → ModuleState
+withSettings s n w = replaced s (s .address) n w (s .slots)
+
+abbrev pub withSlots : ModuleState → List Slot → ModuleState
+withSlots s l = replaced s (s .address) (s .nv) (s .working) l
 
 -- settings with the bytes of a list in the order of `settingBytes`
 abbrev pub withBytes : Settings → List ℕ → Settings
@@ -109,7 +84,7 @@ inputStored t zero x = t
 inputStored t (suc i) x = withInputs t (set (t .«analog_inputs») i x)
 
 -- a value in the setting that a byte or a row has
-abbrev pub valueStored : Settings → Setting → Value → Settings
+abbrev pub valueStored : Settings → SettingField → Value → Settings
 valueStored t (Byte code) v = settingStored t code (v .byte0)
 valueStored t (Row n) v = inputStored t (n .0) (inputFrom v)
 

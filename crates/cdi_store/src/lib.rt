@@ -16,18 +16,18 @@ use cdi_state::Settings;
 use cdi_state::Slot;
 
 // One setting of a copy: of one byte, by its item's code, or an input's row.
-pub enum Setting {
+enum SettingField {
     Byte(u8),
     Row(InputNumber),
 }
 
 // One copy of the settings with another value. A row that there is not is left alone: inputs count from 1.
-fn with_value(settings: Settings, setting: Setting, value: Value) -> Settings
+fn with_value(settings: Settings, setting: SettingField, value: Value) -> Settings
     ensures { λ r. ⌜ r ≡ valueStored settings setting value ⌝ }
 {
     let mut t = settings;
     match setting {
-        Setting::Row(number) => {
+        SettingField::Row(number) => {
             if !cdi_item::is_input_number(number.0) {
                 return t;
             }
@@ -41,7 +41,7 @@ fn with_value(settings: Settings, setting: Setting, value: Value) -> Settings
             t.analog_inputs[i] = row;
             t
         }
-        Setting::Byte(item) => {
+        SettingField::Byte(item) => {
             let byte = value.byte0;
             if item == code::LINE_MASK {
                 t.line_mask = byte;
@@ -89,13 +89,13 @@ pub fn store(state: ModuleState, validated: Validated) -> ModuleState
         Validated::Refused(_) => {}
         Validated::Accepted(command) => match command {
             Command::Write(item, value) => {
-                let after = with_value(working, Setting::Byte(item.code), value);
+                let after = with_value(working, SettingField::Byte(item.code), value);
                 q.working = after;
             }
             Command::WriteIndexed(_, index, value) => match index {
                 Index::Slot(_) => {}
                 Index::Input(number) => {
-                    let after = with_value(working, Setting::Row(number), value);
+                    let after = with_value(working, SettingField::Row(number), value);
                     q.working = after;
                 }
             },
@@ -103,9 +103,9 @@ pub fn store(state: ModuleState, validated: Validated) -> ModuleState
                 if item.code == code::ADDRESS {
                     q.address = [value.byte0, value.byte1, value.byte2, value.byte3];
                 } else {
-                    let after = with_value(nv, Setting::Byte(item.code), value);
+                    let after = with_value(nv, SettingField::Byte(item.code), value);
                     q.nv = after;
-                    let after = with_value(working, Setting::Byte(item.code), value);
+                    let after = with_value(working, SettingField::Byte(item.code), value);
                     q.working = after;
                 }
             }
@@ -118,9 +118,9 @@ pub fn store(state: ModuleState, validated: Validated) -> ModuleState
                     }
                 }
                 Index::Input(number) => {
-                    let after = with_value(nv, Setting::Row(number), value);
+                    let after = with_value(nv, SettingField::Row(number), value);
                     q.nv = after;
-                    let after = with_value(working, Setting::Row(number), value);
+                    let after = with_value(working, SettingField::Row(number), value);
                     q.working = after;
                 }
             },

@@ -11,7 +11,7 @@ use lib.Dec.{ltb, eqb}
 use lib.ListN.{length}
 use Rattle.logic.proofs.Choice.{by-cases}
 use Rattle.hex_text.specs.declared.HexLine.the-variants.{Block, NoRoom}
-use Rattle.hex_text.specs.Hex.{Line, block, notHex, isBlock, pairs, hexLine, lineMax, lineAnswer}
+use Rattle.hex_text.specs.Hex.{Line, block, notHex, isBlock, pairs, hexLine, lineMax, hexLineFor}
 use Rattle.hex_text.proofs.Pairs.{Decodes, decodes, decodes-length, bytesOf}
 
 -- a block that is read is empty, or is the bytes of a line of pairs within the limit
@@ -28,7 +28,7 @@ pub block-length : (line bs : List ℕ) → hexLine line ≡ block bs → length
 block-length line bs e =
     ⊎-elim (λ (none : bs ≡ []). omega (arith, ap length none)) (λ (w : (length line ≤ lineMax) × Decodes line bs). omega (arith, decodes-length (w .1))) (block-cases line bs e)
 
-fits-any : (line : Line) (room : ℕ) → ((bs : List ℕ) → line ≡ block bs → length bs ≤ room) → lineAnswer line room ≡ NoRoom → ⊥
+fits-any : (line : Line) (room : ℕ) → ((bs : List ℕ) → line ≡ block bs → length bs ≤ room) → hexLineFor line room ≡ NoRoom → ⊥
 fits-any (block bs) room fits e =
     let answer : Block (length bs) ≡ NoRoom = simp (le-leb (length bs) room (fits bs refl)) at e in
     let never : _≡_ {A = ℕ} 0 1 = cc in
@@ -36,5 +36,5 @@ fits-any (block bs) room fits e =
 fits-any notHex room fits e = let never : _≡_ {A = ℕ} 0 1 = cc in omega arith
 
 -- so 200 bytes of room are always enough
-pub room-enough : (line : List ℕ) (room : ℕ) → 200 ≤ room → lineAnswer (hexLine line) room ≡ NoRoom → ⊥
+pub room-enough : (line : List ℕ) (room : ℕ) → 200 ≤ room → hexLineFor (hexLine line) room ≡ NoRoom → ⊥
 room-enough line room h = fits-any (hexLine line) room (λ bs e. omega (arith, block-length line bs e))

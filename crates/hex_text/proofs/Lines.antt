@@ -11,7 +11,7 @@ use lib.ListN.{length}
 use Rattle.logic.specs.Written.{written}
 use Rattle.logic.proofs.Choice.{by-cases}
 use Rattle.hex_text.specs.declared.HexLine.the-variants.{Block, NoRoom}
-use Rattle.hex_text.specs.Hex.{block, notHex, isBlock, pairs, hexLine, lineMax, lineAnswer, lineWritten}
+use Rattle.hex_text.specs.Hex.{block, notHex, isBlock, pairs, hexLine, lineMax, hexLineFor, lineWritten}
 use Rattle.hex_text.proofs.Pairs.{bytesOf, is-block, is-not-hex, count}
 
 pub too-long : (line : List ℕ) → lineMax < length line → hexLine line ≡ notHex
@@ -38,7 +38,7 @@ pub some-pairs : (line : List ℕ) → isBlock (pairs line) ≡ true → length 
 some-pairs line pairs-only none = omega (arith, count line pairs-only)
 
 -- the empty block fits, and writes nothing
-pub empty-fits : (buffer : List ℕ) → (Block 0 ≡ lineAnswer (block []) (length buffer)) × (buffer ≡ lineWritten (block []) buffer)
+pub empty-fits : (buffer : List ℕ) → (Block 0 ≡ hexLineFor (block []) (length buffer)) × (buffer ≡ lineWritten (block []) buffer)
 unfolding written
 empty-fits buffer = simp (le-leb 0 (length buffer) (omega arith)) (refl, refl)
 
@@ -47,8 +47,8 @@ module _ (line buffer : List ℕ) (pairs-only : isBlock (pairs line) ≡ true) w
   bytes-length : length (bytesOf (pairs line)) ≡ (length line + 1) / 3
   bytes-length = omega (arith, count line pairs-only)
 
-  pub fits : (length line + 1) / 3 ≤ length buffer → Block ((length line + 1) / 3) ≡ lineAnswer (pairs line) (length buffer)
+  pub fits : (length line + 1) / 3 ≤ length buffer → Block ((length line + 1) / 3) ≡ hexLineFor (pairs line) (length buffer)
   fits room = rw (is-block (pairs line) pairs-only) (simp (bytes-length, le-leb _ _ room))
 
-  pub does-not-fit : length buffer < (length line + 1) / 3 → (NoRoom ≡ lineAnswer (pairs line) (length buffer)) × (buffer ≡ lineWritten (pairs line) buffer)
+  pub does-not-fit : length buffer < (length line + 1) / 3 → (NoRoom ≡ hexLineFor (pairs line) (length buffer)) × (buffer ≡ lineWritten (pairs line) buffer)
   does-not-fit room = rw (is-block (pairs line) pairs-only) (simp (bytes-length, lt-leb _ _ room) (refl, refl))

@@ -86,9 +86,9 @@ unfoldable pub hexLine : List ℕ → Line
 hexLine line = cond (ltb lineMax (length line)) notHex (cond (eqb (length line) 0) (block []) (pairs line))
 
 -- each case of the answer to a line, with `room` bytes to put its block: the block's length where it fits
-abbrev pub lineAnswer : Line → ℕ → HexLine
-lineAnswer notHex room = NotHex
-lineAnswer (block bs) room = cond (leb (length bs) room) (Block (length bs)) NoRoom
+abbrev pub hexLineFor : Line → ℕ → HexLine
+hexLineFor notHex room = NotHex
+hexLineFor (block bs) room = cond (leb (length bs) room) (Block (length bs)) NoRoom
 
 -- the buffer afterwards: the block over its front where it fits, else as it was
 abbrev pub lineWritten : Line → List ℕ → List ℕ

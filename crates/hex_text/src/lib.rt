@@ -3,7 +3,7 @@ ghost use mathlib.Core.Path.{_≡_};
 ghost use mathlib.Core.Bool.{true};
 ghost use Prim.Native.Nat.{_+_, _*_, _<_, _≤_};
 ghost use lib.ListN.{length, drop};
-ghost use Rattle.hex_text.specs.Hex.{isDigit, isPair, isBlock, pairs, spaced, isLineEnd, lastPair, lineFrom, lineEnd, hexLine, lineAnswer, lineWritten};
+ghost use Rattle.hex_text.specs.Hex.{isDigit, isPair, isBlock, pairs, spaced, isLineEnd, lastPair, lineFrom, lineEnd, hexLine, hexLineFor, lineWritten};
 
 // The most characters of a line of hex.
 pub const LINE_MAX: usize = 600;
@@ -84,7 +84,7 @@ fn decode(line: &[u8], block: &mut [u8])
 // Reads a line of pairs into the front of `block`, where it is not too long and its block fits.
 fn read_pairs(line: &[u8], block: &mut [u8]) -> HexLine
     requires { ⌜ isBlock (pairs (now line)) ≡ true ⌝ }
-    ensures { λ r. ⌜ (r ≡ lineAnswer (hexLine (now (line .entry))) (length (now (block .entry)))) × (now (block .exit) ≡ lineWritten (hexLine (now (line .entry))) (now (block .entry))) ⌝ }
+    ensures { λ r. ⌜ (r ≡ hexLineFor (hexLine (now (line .entry))) (length (now (block .entry)))) × (now (block .exit) ≡ lineWritten (hexLine (now (line .entry))) (now (block .entry))) ⌝ }
 {
     if line.len() > LINE_MAX {
         return HexLine::NotHex;
@@ -134,7 +134,7 @@ fn is_last_pair(text: &[u8], at: usize) -> bool
 // `from` is past the end of the text, the line is empty and ends at the text's end.
 pub fn read_line_at(text: &[u8], from: usize, block: &mut [u8]) -> LineAt
     ensures { λ r. ⌜ (r .end ≡ lineEnd from (now (text .entry)))
-        × (r .line ≡ lineAnswer (hexLine (lineFrom from (now (text .entry)))) (length (now (block .entry))))
+        × (r .line ≡ hexLineFor (hexLine (lineFrom from (now (text .entry)))) (length (now (block .entry))))
         × (now (block .exit) ≡ lineWritten (hexLine (lineFrom from (now (text .entry)))) (now (block .entry))) ⌝ }
 {
     if from > text.len() {

@@ -3,7 +3,7 @@
 ghost use mathlib.Core.Path.{_≡_};
 ghost use lib.ListN.{length};
 ghost use Rattle.cdi_state.specs.State.{inputOffset};
-ghost use Rattle.hex_text.specs.Hex.{lineFrom, lineEnd, hexLine, lineAnswer, lineWritten};
+ghost use Rattle.hex_text.specs.Hex.{lineFrom, lineEnd, hexLine, hexLineFor, lineWritten};
 ghost use Rattle.answer_text.specs.Text.{hexText, refusedText, notHexText, printed};
 ghost use Rattle.logic.specs.Written.{written, lengthIn, writtenIn};
 ghost use Rattle.cdi_log.specs.Replay.{linesText};
@@ -41,7 +41,7 @@ pub extern "C" fn probe_signed_offset(input: AnalogInput) -> i16
 // Reads the line of `text` that starts at `from` into the front of `block`.
 #[no_mangle]
 pub extern "C" fn probe_read_line_at(text: &[u8], from: usize, block: &mut [u8]) -> LineProbe
-    ensures { λ r. ⌜ (r ≡ lineProbe (lineAnswer (hexLine (lineFrom from (now (text .entry)))) (length (now (block .entry)))) (lineEnd from (now (text .entry))))
+    ensures { λ r. ⌜ (r ≡ lineProbe (hexLineFor (hexLine (lineFrom from (now (text .entry)))) (length (now (block .entry)))) (lineEnd from (now (text .entry))))
         × (now (block .exit) ≡ lineWritten (hexLine (lineFrom from (now (text .entry)))) (now (block .entry))) ⌝ }
 {
     let read = hex_text::read_line_at(text, from, block);
