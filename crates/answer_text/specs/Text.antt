@@ -1,8 +1,9 @@
 -- Document 01, "Examples": the lines that are printed.
 use Prim.Native.Nat.{ℕ, _+_, _/_, _%_}
 use mathlib.Core.Bool.{cond}
-use mathlib.Core.List.{List, [], _∷_, _++_}
+use mathlib.Core.List.{List, [], _∷_, _++_, map}
 use lib.Dec.{ltb}
+use Rattle.logic.specs.Lists.{below}
 use Rattle.hex_text.specs.Hex.{space, lineFeed}
 
 -- the digit of a number below 16
@@ -11,7 +12,7 @@ digitOf n = cond (ltb n 10) (n + 48) (n + 55)
 
 -- the digits of 0 to 15
 abbrev pub allDigits : List ℕ
-allDigits = 48 ∷ 49 ∷ 50 ∷ 51 ∷ 52 ∷ 53 ∷ 54 ∷ 55 ∷ 56 ∷ 57 ∷ 65 ∷ 66 ∷ 67 ∷ 68 ∷ 69 ∷ 70 ∷ []
+allDigits = map digitOf (below 16 [])
 
 -- a block as upper-case hex pairs parted by one space
 unfoldable pub hexText : List ℕ → List ℕ
@@ -27,11 +28,11 @@ decimalText n =
 
 -- `refused`, a space and the number
 abbrev pub refusedText : ℕ → List ℕ
-refusedText n = 114 ∷ 101 ∷ 102 ∷ 117 ∷ 115 ∷ 101 ∷ 100 ∷ 32 ∷ decimalText n
+refusedText n = 114 ∷ 101 ∷ 102 ∷ 117 ∷ 115 ∷ 101 ∷ 100 ∷ space ∷ decimalText n
 
 -- `not hex`
 abbrev pub notHexText : List ℕ
-notHexText = 110 ∷ 111 ∷ 116 ∷ 32 ∷ 104 ∷ 101 ∷ 120 ∷ []
+notHexText = 110 ∷ 111 ∷ 116 ∷ space ∷ 104 ∷ 101 ∷ 120 ∷ []
 
 -- a line feed ends each line
 abbrev pub printed : List ℕ → List ℕ

@@ -12,7 +12,7 @@ use Rattle.cdi_state.specs.State.{inputBytes, slotBytes, inputAt, noSlot}
 use Rattle.cdi_model.specs.Cells.{nv, slot, stored, setting, interruptMask, Cell}
 use Rattle.cdi_module.specs.Machine.{cells}
 use Rattle.cdi_image.specs.Image.{mark, version, imageOf}
-use Rattle.cdi_image.specs.Parts.{identityBytes, singleBytes, settingsBytes}
+use Rattle.cdi_image.specs.Parts.{identityPart, plainPart, settingsPart}
 
 module _ {A : Type 0} (f : A → List ℕ) where
   pub flatMap-append : (l m : List A) → flatMap f (l ++ m) ≡ flatMap f l ++ flatMap f m
@@ -53,11 +53,11 @@ slots-are-cells s h =
     ∙ ap (flatMap slotBytes) (take-all 40 (s .slots) (omega (arith, h)))
 
 pub parts-are-cells : (s : ModuleState) → length (s .slots) ≡ 40
-    → imageOf s ≡ mark ++ version ++ identityBytes s ++ settingsBytes (s .nv) ++ flatMap slotBytes (s .slots) ++ s .nv .«interrupt_mask» ∷ []
+    → imageOf s ≡ mark ++ version ++ identityPart s ++ settingsPart (s .nv) ++ flatMap slotBytes (s .slots) ++ s .nv .«interrupt_mask» ∷ []
 unfolding imageOf cells flatMap
 parts-are-cells s h =
     let row : ℕ → List ℕ = λ n. inputBytes (inputAt (s .nv) n) in
-    let before : List ℕ → List ℕ = λ t. s .name ++ (s .firmware ++ (s .serial ++ (s .address ++ (singleBytes (s .nv) ++ (row 1 ++ (row 2 ++ t)))))) in
+    let before : List ℕ → List ℕ = λ t. s .name ++ (s .firmware ++ (s .serial ++ (s .address ++ (plainPart (s .nv) ++ (row 1 ++ (row 2 ++ t)))))) in
     ap (λ (t : List ℕ). mark ++ version ++ before t) (flatMap-append (cells s) slotCells (stored nv (setting interruptMask) ∷ []))
     ∙ ap (λ (t : List ℕ). mark ++ version ++ before (t ++ s .nv .«interrupt_mask» ∷ [])) (slots-are-cells s h)
     ∙ simp append-assoc

@@ -9,7 +9,7 @@ use Rattle.logic.specs.Lists.{part}
 use Rattle.cdi_state.specs.declared.ModuleState.{ModuleState}
 use Rattle.cdi_state.specs.State.{inputBytes, slotBytes, inputAt}
 use Rattle.cdi_image.specs.Image.{mark, version, imageOf, imageSize, withImage}
-use Rattle.cdi_image.specs.Parts.{singleBytes}
+use Rattle.cdi_image.specs.Parts.{plainPart}
 use Rattle.cdi_image.proofs.Cells.{parts-are-cells}
 use Rattle.cdi_image.proofs.Cut.{cut, piece-length}
 use Rattle.cdi_image.proofs.Places.{part-is-bytes}
@@ -20,7 +20,7 @@ partSizes = 3 ∷ 2 ∷ 17 ∷ 3 ∷ 4 ∷ 4 ∷ 5 ∷ 5 ∷ 5 ∷ 200 ∷ 1 ∷
 
 abbrev pub partsOf : ModuleState → List (List ℕ)
 partsOf s =
-    mark ∷ version ∷ s .name ∷ s .firmware ∷ s .serial ∷ s .address ∷ singleBytes (s .nv) ∷ inputBytes (inputAt (s .nv) 1) ∷
+    mark ∷ version ∷ s .name ∷ s .firmware ∷ s .serial ∷ s .address ∷ plainPart (s .nv) ∷ inputBytes (inputAt (s .nv) 1) ∷
     inputBytes (inputAt (s .nv) 2) ∷ flatMap slotBytes (s .slots) ∷ (s .nv .«interrupt_mask» ∷ []) ∷ []
 
 pub image-is-parts : (s : ModuleState) → length (s .slots) ≡ 40 → imageOf s ≡ flatten (partsOf s)

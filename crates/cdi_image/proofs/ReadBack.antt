@@ -10,10 +10,10 @@ use lib.Seq.{ext-getD}
 use Rattle.logic.specs.Lists.{part}
 use Rattle.cdi_state.specs.declared.AnalogInput.{AnalogInput}
 use Rattle.cdi_state.specs.declared.ModuleState.{ModuleState}
-use Rattle.cdi_state.specs.State.{inputBytes, slotBytes, noInput, ArrayLengths, FieldLengths}
+use Rattle.cdi_state.specs.State.{inputBytes, slotBytes, noInput, ArrayLengths, FieldLengths, inputIn}
 use Rattle.cdi_state.proofs.Arrays.{below-two}
-use Rattle.cdi_image.specs.Image.{imageOf, imageSize, inputIn, slotsIn, imageSettings, imageSlots, withImage}
-use Rattle.cdi_image.specs.Parts.{singleBytes}
+use Rattle.cdi_image.specs.Image.{imageOf, imageSize, slotsIn, imageSettings, imageSlots, withImage}
+use Rattle.cdi_image.specs.Parts.{plainPart}
 use Rattle.cdi_image.proofs.Cut.{cut, cutEnd, cut-flatten, flatten-length}
 use Rattle.cdi_image.proofs.Places.{bytesFrom, part-is-bytes}
 use Rattle.cdi_image.proofs.Rows.{FourLong, slots-length, slots-read}
@@ -53,7 +53,7 @@ module _ (s : ModuleState) (a : ArrayLengths s) (f : FieldLengths s) where
   settings-read : imageSettings (imageOf s) ≡ s .nv
   settings-read =
       let image = imageOf s in
-      let single : bytesFrom 33 5 image ≡ singleBytes (s .nv) = sym (part-is-bytes 33 5 image (omega (arith, image-length))) ∙ part-read 6 in
+      let single : bytesFrom 33 5 image ≡ plainPart (s .nv) = sym (part-is-bytes 33 5 image (omega (arith, image-length))) ∙ part-read 6 in
       let last : bytesFrom 248 1 image ≡ s .nv .«interrupt_mask» ∷ [] =
       sym (part-is-bytes 248 1 image (omega (arith, image-length))) ∙ part-read 10
       in

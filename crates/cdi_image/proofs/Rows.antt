@@ -9,8 +9,8 @@ use native.Mathlib.Nat.{zero-lt-suc}
 use lib.ListN.{length, getD, take, drop, length-append, length-drop, take-append-drop}
 use lib.Seq.{length-take-le, take-all, take-suc, take-at, drop-at, getD-at}
 use Rattle.cdi_state.specs.declared.Slot.{Slot}
-use Rattle.cdi_state.specs.State.{inputBytes, slotBytes, noSlot}
-use Rattle.cdi_image.specs.Image.{slotIn, inputIn, slotsIn}
+use Rattle.cdi_state.specs.State.{inputBytes, slotBytes, noSlot, slotIn, inputIn}
+use Rattle.cdi_image.specs.Image.{slotsIn}
 
 -- ---- one row
 pub input-written : (row : List ℕ) → length row ≡ 5 → inputBytes (inputIn row) ≡ row

@@ -4,6 +4,7 @@ use mathlib.Core.List.{List, [], _∷_, _++_, map, flatMap}
 use mathlib.Core.Bool.{Bool, cond, not, _&&_}
 use lib.Dec.{eqb}
 use lib.ListN.{length, getD, take, drop}
+use Rattle.cdi_state.specs.State.{inputIn, slotIn}
 use Rattle.logic.specs.Lists.{below, sameBytes, hasZero, part}
 use Rattle.refusal.specs.Refusal.{Result, accepted, refused, invalid, imageLength, imageMark, imageVersion}
 use Rattle.cdi_item.specs.Items.{nameLength, rowLength, slotCount}
@@ -75,13 +76,6 @@ slotsAt = 48
 
 abbrev pub interruptMaskAt : ℕ
 interruptMaskAt = 248
-
--- a row of five bytes as a slot, and as an input
-abbrev pub slotIn : List ℕ → Slot
-slotIn row = record { address = take 4 row; mask = getD row 4 0 }
-
-abbrev pub inputIn : List ℕ → AnalogInput
-inputIn row = record { channel = getD row 0 0; readings = getD row 1 0; reference = getD row 2 0; offset = drop 3 row }
 
 -- so many slots, one row behind the other
 unfoldable pub slotsIn : ℕ → List ℕ → List Slot

@@ -7,13 +7,13 @@ use Rattle.cdi_state.specs.declared.ModuleState.{ModuleState}
 use Rattle.cdi_state.specs.State.{inputBytes, noInput}
 
 -- items 01, 02, 03 and 10
-abbrev pub identityBytes : ModuleState → List ℕ
-identityBytes s = s .name ++ s .firmware ++ s .serial ++ s .address
+abbrev pub identityPart : ModuleState → List ℕ
+identityPart s = s .name ++ s .firmware ++ s .serial ++ s .address
 
 -- items 11 to 15
-abbrev pub singleBytes : Settings → List ℕ
-singleBytes t = t .«line_mask» ∷ t .«latch_mask» ∷ t .«tx_power» ∷ t .«control_source» ∷ t .«message_select» ∷ []
+abbrev pub plainPart : Settings → List ℕ
+plainPart t = t .«line_mask» ∷ t .«latch_mask» ∷ t .«tx_power» ∷ t .«control_source» ∷ t .«message_select» ∷ []
 
 -- items 11 to 16
-abbrev pub settingsBytes : Settings → List ℕ
-settingsBytes t = singleBytes t ++ inputBytes (getD (t .«analog_inputs») 0 noInput) ++ inputBytes (getD (t .«analog_inputs») 1 noInput)
+abbrev pub settingsPart : Settings → List ℕ
+settingsPart t = plainPart t ++ inputBytes (getD (t .«analog_inputs») 0 noInput) ++ inputBytes (getD (t .«analog_inputs») 1 noInput)

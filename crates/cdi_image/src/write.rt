@@ -7,7 +7,7 @@ ghost use lib.ListN.{length};
 ghost use lib.Seq.{sets};
 ghost use Rattle.cdi_state.specs.State.{slotBytes};
 ghost use Rattle.cdi_image.specs.Image.{mark, version, imageSize, imageOf, nameAt, settingsAt, slotsAt, interruptMaskAt};
-ghost use Rattle.cdi_image.specs.Parts.{identityBytes, settingsBytes};
+ghost use Rattle.cdi_image.specs.Parts.{identityPart, settingsPart};
 use super::ADDRESS_AT;
 use super::FIRMWARE_AT;
 use super::INPUT_1_AT;
@@ -46,7 +46,7 @@ fn write_head(image: &mut [u8])
 
 fn write_identity(state: ModuleState, image: &mut [u8])
     requires { ⌜ imageSize ≤ length (now image) ⌝ }
-    ensures { λ _. ⌜ (length (identityBytes state) ≡ settingsAt - nameAt) × (now (image .exit) ≡ sets (now (image .entry)) nameAt (identityBytes state)) ⌝ }
+    ensures { λ _. ⌜ (length (identityPart state) ≡ settingsAt - nameAt) × (now (image .exit) ≡ sets (now (image .entry)) nameAt (identityPart state)) ⌝ }
 {
     let name = state.name;
     let firmware = state.firmware;
@@ -60,7 +60,7 @@ fn write_identity(state: ModuleState, image: &mut [u8])
 
 fn write_settings(settings: Settings, image: &mut [u8])
     requires { ⌜ imageSize ≤ length (now image) ⌝ }
-    ensures { λ _. ⌜ (length (settingsBytes settings) ≡ slotsAt - settingsAt) × (now (image .exit) ≡ sets (now (image .entry)) settingsAt (settingsBytes settings)) ⌝ }
+    ensures { λ _. ⌜ (length (settingsPart settings) ≡ slotsAt - settingsAt) × (now (image .exit) ≡ sets (now (image .entry)) settingsAt (settingsPart settings)) ⌝ }
 {
     let single = [
         settings.line_mask,

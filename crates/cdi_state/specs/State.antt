@@ -5,7 +5,7 @@ use mathlib.Core.List.{List, [], _∷_, _++_}
 use mathlib.Core.Bool.{cond}
 use lib.Dec.{eqb}
 use lib.IntN.{ℤ}
-use lib.ListN.{length, getD, replicate}
+use lib.ListN.{length, getD, take, drop, replicate}
 use Rattle.logic.specs.Signed.{signed}
 use Rattle.cdi_item.specs.Items as item
 use Rattle.cdi_state.specs.declared.Slot.{Slot}
@@ -19,6 +19,13 @@ inputBytes x = x .channel ∷ x .readings ∷ x .reference ∷ x .offset
 
 abbrev pub slotBytes : Slot → List ℕ
 slotBytes s = s .address ++ s .mask ∷ []
+
+-- a row of five bytes as an input, and as a slot
+abbrev pub inputIn : List ℕ → AnalogInput
+inputIn row = record { channel = getD row 0 0; readings = getD row 1 0; reference = getD row 2 0; offset = drop 3 row }
+
+abbrev pub slotIn : List ℕ → Slot
+slotIn row = record { address = take 4 row; mask = getD row 4 0 }
 
 -- an input's offset: two bytes, the high one first, in two's complement (house)
 abbrev pub inputOffset : AnalogInput → ℤ
@@ -68,7 +75,7 @@ defaultSettings = record {
 abbrev pub emptySlot : Slot
 emptySlot = record { address = replicate 4 0; mask = 0 }
 
--- both RSSI bytes where no signal was measured
+-- both RSSI bytes, as a power-up and the factory leave them
 abbrev pub noRssi : List ℕ
 noRssi = replicate 2 0x80
 

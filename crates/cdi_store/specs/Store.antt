@@ -3,10 +3,11 @@ use Prim.Native.Nat.{ℕ, zero, suc}
 use mathlib.Core.List.{List, [], _∷_}
 use mathlib.Core.Bool.{Bool, false, cond, not, _||_}
 use lib.Dec.{eqb}
-use lib.ListN.{getD, set, replicate}
+use lib.ListN.{getD, take, set, replicate}
 use Rattle.refusal.specs.Refusal.{Result, accepted, refused}
 use Rattle.cdi_item.specs.declared.Value.{Value}
 use Rattle.cdi_item.specs.Items as item
+use Rattle.cdi_item.specs.Values.{valueBytes}
 use Rattle.cdi_command.specs.declared.Index.{Index}
 use Rattle.cdi_command.specs.declared.Index.the-variants.{Slot as SlotAt, Input as InputAt}
 use Rattle.cdi_command.specs.declared.Command.{Command}
@@ -19,7 +20,7 @@ use Rattle.cdi_state.specs.declared.Settings.{Settings}
 use Rattle.cdi_state.specs.declared.ModuleState.{ModuleState}
 use Rattle.cdi_store.specs.declared.SettingField.{SettingField}
 use Rattle.cdi_store.specs.declared.SettingField.the-variants.{Byte, Row}
-use Rattle.cdi_state.specs.State.{settingBytes, place, defaultSettings, emptySlot, noRssi}
+use Rattle.cdi_state.specs.State.{inputIn, slotIn, settingBytes, place, defaultSettings, emptySlot, noRssi}
 
 -- ---- a state with the parts replaced that commands store in
 abbrev pub replaced : ModuleState → (address : List ℕ) (nv working : Settings) (slots : List Slot) → ModuleState
@@ -76,7 +77,7 @@ unfoldable pub settingStored : Settings → ℕ → ℕ → Settings
 settingStored t code byte = withBytes t (set (settingBytes t) (place code) byte)
 
 abbrev pub inputFrom : Value → AnalogInput
-inputFrom v = record { channel = v .byte0; readings = v .byte1; reference = v .byte2; offset = v .byte3 ∷ v .byte4 ∷ [] }
+inputFrom v = inputIn (valueBytes v)
 
 -- the row of an input, by its number from 1 on
 abbrev pub inputStored : Settings → ℕ → AnalogInput → Settings
@@ -89,10 +90,10 @@ valueStored t (Byte code) v = settingStored t code (v .byte0)
 valueStored t (Row n) v = inputStored t (n .0) (inputFrom v)
 
 abbrev pub addressFrom : Value → List ℕ
-addressFrom v = v .byte0 ∷ v .byte1 ∷ v .byte2 ∷ v .byte3 ∷ []
+addressFrom v = take 4 (valueBytes v)
 
 abbrev pub slotFrom : Value → Slot
-slotFrom v = record { address = addressFrom v; mask = v .byte4 }
+slotFrom v = slotIn (valueBytes v)
 
 -- ---- commands
 -- Write stores in the working copy alone; no slot has one
@@ -151,7 +152,7 @@ abbrev pub stateFor : ModuleState → Result Command → ModuleState
 stateFor s (accepted c) = stateAfter s c
 stateFor s (refused n) = s
 
--- a power-up takes the working settings from the non-volatile ones, and clears RSSI, events and flags
+-- a power-up takes the working settings from the non-volatile ones, and sets both RSSI bytes to 80, events and flags to 00
 abbrev pub stateAtPowerUp : ModuleState → ModuleState
 stateAtPowerUp s = record {
   name = s .name;

@@ -39,11 +39,6 @@ pub data Line : Type 0 where
   block : List ℕ → Line
   notHex : Line
 
--- whether a line is a block
-abbrev pub isBlock : Line → Bool
-isBlock (block bs) = true
-isBlock notHex = false
-
 abbrev pub prepend : ℕ → Line → Line
 prepend b (block bs) = block (b ∷ bs)
 prepend b notHex = notHex
@@ -54,24 +49,6 @@ pairs [] = notHex
 pairs (high ∷ []) = notHex
 pairs (high ∷ low ∷ []) = cond (isPair high low) (block (pairValue high low ∷ [])) notHex
 pairs (high ∷ low ∷ c ∷ rest) = cond (isPair high low && eqb c space) (prepend (pairValue high low) (pairs rest)) notHex
-
--- how many characters at the front are pairs with a space after each
-unfoldable pub spaced : List ℕ → ℕ
-spaced [] = 0
-spaced (high ∷ []) = 0
-spaced (high ∷ low ∷ []) = 0
-spaced (high ∷ low ∷ c ∷ rest) = cond (isPair high low && eqb c space) (spaced rest + 3) 0
-
--- a line ends at its line feed, and at the text's end where it has none
-abbrev pub isLineEnd : List ℕ → Bool
-isLineEnd [] = true
-isLineEnd (c ∷ rest) = eqb c lineFeed
-
--- whether the last pair of a line stands at the front
-unfoldable pub lastPair : List ℕ → Bool
-lastPair [] = false
-lastPair (high ∷ []) = false
-lastPair (high ∷ low ∷ rest) = isPair high low && isLineEnd rest
 
 -- the line that starts at a place of a text, without its line feed; its end is the place of the line feed, or of the text's end
 -- where there is none, and a line that would start past the text's end is empty and ends there

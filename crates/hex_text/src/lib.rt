@@ -3,7 +3,8 @@ ghost use mathlib.Core.Path.{_≡_};
 ghost use mathlib.Core.Bool.{true};
 ghost use Prim.Native.Nat.{_+_, _*_, _<_, _≤_};
 ghost use lib.ListN.{length, drop};
-ghost use Rattle.hex_text.specs.Hex.{isDigit, isPair, isBlock, pairs, spaced, isLineEnd, lastPair, lineFrom, lineEnd, hexLine, hexLineFor, lineWritten};
+ghost use Rattle.hex_text.specs.Scan.{isBlock, spaced, isLineEnd, lastPair};
+ghost use Rattle.hex_text.specs.Hex.{isDigit, isPair, pairs, lineFrom, lineEnd, hexLine, hexLineFor, lineWritten};
 
 // The most characters of a line of hex.
 pub const LINE_MAX: usize = 600;

@@ -6,7 +6,8 @@ use mathlib.Core.Bool.{true}
 use mathlib.Core.List.{List}
 use native.Mathlib.Omega.{arith}
 use lib.ListN.{drop}
-use Rattle.hex_text.specs.Hex.{isBlock, pairs, lastPair}
+use Rattle.hex_text.specs.Scan.{isBlock, lastPair}
+use Rattle.hex_text.specs.Hex.{pairs}
 use Rattle.hex_text.proofs.Lines.{empty-fits}
 use Rattle.hex_text.proofs.Ends.{Skipped, Found, past-end, last-within, pair-within, pair-end, pair-line, pair-pairs, found-end, found-empty, found-other}
 use borrow.Author.Needs.{needs}

@@ -6,7 +6,7 @@ use native.Mathlib.Omega.{arith}
 use borrow.Author.Needs.{needs}
 use borrow.Author.Tests.{not-true, not-false}
 use lib.ListN.{length, drop}
-use Rattle.hex_text.specs.Hex.{spaced}
+use Rattle.hex_text.specs.Scan.{spaced}
 use Rattle.hex_text.proofs.Spaced.{spaced-short, spaced-more, no-pair, no-space}
 use Rattle.hex_text.proofs.skip_pairs.Statement.{statement}
 use Rattle.hex_text.proofs.skip_pairs.Tie as tie

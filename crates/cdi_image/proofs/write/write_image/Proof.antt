@@ -8,7 +8,7 @@ use lib.ListN.{length, length-set, set}
 use Rattle.cdi_state.specs.State.{slotBytes}
 use Rattle.cdi_state.proofs.Arrays.{unmapped}
 use Rattle.cdi_image.specs.Image.{mark, version}
-use Rattle.cdi_image.specs.Parts.{identityBytes, settingsBytes}
+use Rattle.cdi_image.specs.Parts.{identityPart, settingsPart}
 use Rattle.cdi_image.proofs.Cells.{parts-are-cells}
 use Rattle.cdi_image.proofs.Puts.{Put, put-behind, put-all}
 use Rattle.cdi_image.proofs.write.write_image.Statement.{statement}
@@ -50,8 +50,8 @@ returns c =
     let t₄ = w₄ .write-slots .last .1 .0 in
     let last = q .nv .«interrupt_mask» in
     let head : Put s 0 (mark ++ version) 5 t₁ = record { ends = refl; stored = w₁ .write-head .ensures } in
-    let identity : Put t₁ 5 (identityBytes q) 33 t₂ = record { ends = omega (arith, w₂ .write-identity .ensures .0); stored = w₂ .write-identity .ensures .1 } in
-    let settings : Put t₂ 33 (settingsBytes (q .nv)) 48 t₃ = record { ends = omega (arith, w₃ .write-settings .ensures .0); stored = w₃ .write-settings .ensures .1 } in
+    let identity : Put t₁ 5 (identityPart q) 33 t₂ = record { ends = omega (arith, w₂ .write-identity .ensures .0); stored = w₂ .write-identity .ensures .1 } in
+    let settings : Put t₂ 33 (settingsPart (q .nv)) 48 t₃ = record { ends = omega (arith, w₃ .write-settings .ensures .0); stored = w₃ .write-settings .ensures .1 } in
     let slots : Put t₃ 48 (flatMap slotBytes (q .slots)) 248 t₄ = record { ends = omega (arith, w₄ .write-slots .ensures .0); stored = w₄ .write-slots .ensures .1 } in
     let mask : Put t₄ 248 (last ∷ []) (length s) (set t₄ 248 last) = record { ends = sym (z .pre); stored = refl } in
     let all = put-behind (put-behind (put-behind (put-behind head identity) settings) slots) mask in

@@ -8,7 +8,7 @@ use borrow.Author.Needs.{needs}
 use lib.ListN.{length, getD}
 use lib.Seq.{sets}
 use Rattle.cdi_state.specs.State.{inputBytes, noInput}
-use Rattle.cdi_image.specs.Parts.{singleBytes}
+use Rattle.cdi_image.specs.Parts.{plainPart}
 use Rattle.cdi_image.proofs.Puts.{Put, put-behind}
 use Rattle.cdi_image.proofs.write.write_settings.Statement.{statement}
 use Rattle.cdi_image.proofs.write.write_settings.Tie as tie
@@ -68,7 +68,7 @@ returns c =
     let row₂ = inputBytes (getD (a .t1 .«analog_inputs») 1 noInput) in
     let made₁ : b₁ .bytes .result ≡ row₁ = b₁ .bytes .ensures in
     let made₂ : b₂ .bytes2 .result ≡ row₂ = b₂ .bytes2 .ensures in
-    let single : Put (a .image .now) 33 (singleBytes (a .t1)) 38 t₁ = record { ends = refl; stored = w₁ .put .ensures } in
+    let single : Put (a .image .now) 33 (plainPart (a .t1)) 38 t₁ = record { ends = refl; stored = w₁ .put .ensures } in
     let input₁ : Put t₁ 38 row₁ 43 t₂ = record {
       ends = omega (arith, ap length made₁, long₁ b₁);
       stored = w₂ .put2 .ensures ∙ ap (λ (q : List ℕ). sets t₁ 38 q) made₁;

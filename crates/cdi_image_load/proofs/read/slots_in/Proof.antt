@@ -8,8 +8,9 @@ use native.Mathlib.Omega.{arith}
 use borrow.Author.Needs.{needs}
 use lib.ListN.{length, take, drop, set, length-set}
 use lib.Seq.{take-suc-set, take-all, drop-drop, append-snoc}
+use Rattle.cdi_state.specs.State.{slotIn}
 use Rattle.cdi_state.specs.declared.Slot.{Slot}
-use Rattle.cdi_image.specs.Image.{slotIn, slotsIn}
+use Rattle.cdi_image.specs.Image.{slotsIn}
 use Rattle.cdi_image_load.proofs.read.slots_in.Statement.{statement}
 use Rattle.cdi_image_load.proofs.read.slots_in.Tie as tie
 
