@@ -10,3 +10,5 @@ pub mod Apart
 pub mod Tight
 pub mod Examples
 pub mod Witness
+pub mod Live
+pub mod Status

@@ -8,7 +8,7 @@ use mathlib.Core.List.{List, [], _∷_, map, flatMap}
 use borrow.Author.Tests.{ltb-true, eq-eqb}
 use lib.Dec.{eqb}
 use lib.ListN.{length}
-use Rattle.logic.specs.Lists.{allBelow, sameBytes, hasZero, all}
+use Rattle.logic.specs.Lists.{allBelow, sameBytes, hasZero, all, any}
 use Rattle.logic.proofs.Below.{all-at}
 use Rattle.logic.proofs.Choice.{choice}
 use Rattle.refusal.specs.Refusal.{valueNotAccepted}
@@ -20,7 +20,7 @@ use Rattle.cdi_model.specs.Values.{upToZero}
 use Rattle.cdi_model.specs.Action.{Action, write, program, actionOf}
 use Rattle.cdi_model.specs.Table.{Decision, refuse, execute, executePowerUp, isAccepted, reads, stores}
 use Rattle.cdi_model.specs.Model.{Cells, isValid, decidePayload, gives, valueRead, responsePayload}
-use Rattle.cdi_model.specs.Tight.{any, those, everyCell, isIn, allApart, samplePayloads, sampleDecisions, stateOf, base, hardwareShown, workingShown, other, differIn, changed, responseOf, differs, storedCells, matters, changes, isTight}
+use Rattle.cdi_model.specs.Tight.{those, everyCell, isIn, allApart, samplePayloads, sampleDecisions, stateOf, base, hardwareShown, workingShown, other, differIn, changed, responseOf, differs, storedCells, matters, changes, isTight}
 use Rattle.cdi_model.proofs.Cells.{same-eq}
 use Rattle.cdi_model.proofs.Checked.{CheckedDecision, payload-checked}
 use Rattle.cdi_model.proofs.Validity.{takes, each-input, valid-takes, takes-valid}

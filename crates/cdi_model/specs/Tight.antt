@@ -6,7 +6,7 @@ use Prim.Native.Nat.{ℕ, suc, _+_}
 use mathlib.Core.List.{List, [], _∷_, _++_, map, flatMap}
 use mathlib.Core.Bool.{Bool, true, false, cond, not, _&&_, _||_, Bool·beq}
 use lib.ListN.{take, replicate}
-use Rattle.logic.specs.Lists.{all, below, sameBytes}
+use Rattle.logic.specs.Lists.{all, any, below, sameBytes}
 use Rattle.refusal.specs.Refusal.{valueNotAccepted}
 use Rattle.cdi_item.specs.declared.Item.{Item}
 use Rattle.cdi_item.specs.Items.{items, slotCount, permitted}
@@ -19,10 +19,6 @@ use Rattle.cdi_model.specs.Model.{Cells, decidePayload, gives, valueRead
 
 -- ---- tests over lists
 module _ {A : Type 0} where
-  abbrev pub any : (A → Bool) → List A → Bool
-  any ok [] = false
-  any ok (x ∷ xs) = ok x || any ok xs
-
   abbrev pub those : (A → Bool) → List A → List A
   those ok [] = []
   those ok (x ∷ xs) = cond (ok x) (x ∷ those ok xs) (those ok xs)

@@ -10,3 +10,4 @@ pub mod Theorem
 pub mod Within
 pub mod Factory
 pub mod Told
+pub mod Determined

@@ -25,6 +25,11 @@ module _ {A : Type 0} where
   all ok [] = true
   all ok (x ∷ xs) = ok x && all ok xs
 
+  -- whether it passes at one of them
+  abbrev pub any : (A → Bool) → List A → Bool
+  any ok [] = false
+  any ok (x ∷ xs) = ok x || any ok xs
+
 -- whether all of some bytes are 00, and whether one of them is
 abbrev pub allZero : List ℕ → Bool
 allZero bytes = all (λ b. eqb b 0) bytes
