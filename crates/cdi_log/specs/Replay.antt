@@ -18,7 +18,7 @@ abbrev pub longer : ℕ → List (List ℕ) → List (List ℕ)
 longer c [] = (c ∷ []) ∷ []
 longer c (line ∷ rest) = (c ∷ line) ∷ rest
 
--- "a line feed ends each line, and the last line read may lack it": behind a last line feed no further line begins
+-- a line ends at its line feed, which the last may be without; behind a last line feed no further line begins
 unfoldable pub lines : List ℕ → List (List ℕ)
 lines [] = []
 lines (c ∷ chars) = cond (eqb c lineFeed) ([] ∷ lines chars) (longer c (lines chars))
@@ -28,7 +28,7 @@ lines (c ∷ chars) = cond (eqb c lineFeed) ([] ∷ lines chars) (longer c (line
 abbrev pub blockStep : List ℕ → Step
 blockStep bytes = command bytes (replicate responseBufferMin 0)
 
--- "the answer in the same form, or `refused` and the number": a refusal has the length 0
+-- the response as hex, or `refused` and the number: a refusal has the length 0
 abbrev pub outcomeText : (refusal size : ℕ) (response : List ℕ) → List ℕ
 outcomeText refusal size response = cond (eqb size 0) (refusedText refusal) (hexText (take size response))
 
@@ -37,7 +37,7 @@ abbrev pub resultText : StepResult → List ℕ
 resultText (poweredUp refusal) = refusedText refusal
 resultText (responded refusal size response) = outcomeText refusal size response
 
--- what is printed for a line: "a line of any other form .. prints `not hex`"
+-- what is printed for a line: `not hex` where it is none
 abbrev pub lineText : ModuleState → Line → List ℕ
 lineText state notHex = notHexText
 lineText state (block bytes) = resultText (resultOf state (blockStep bytes))
@@ -65,6 +65,6 @@ replayedFrom state input = linesText state (lines input)
 abbrev pub stateAtEnd : ModuleState → List ℕ → ModuleState
 stateAtEnd state input = linesState state (lines input)
 
--- what the replay program prints for an input: it "starts from the factory record"
+-- what the replay program prints for an input: it begins with the factory state
 abbrev pub replayed : List ℕ → List ℕ
 replayed input = replayedFrom factoryState input

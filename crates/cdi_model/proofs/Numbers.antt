@@ -18,10 +18,10 @@ use Rattle.cdi_command.specs.Command.{validatePayload}
 use Rattle.cdi_command.proofs.Refusals.{payloadRefusals, payload-refusal}
 use Rattle.cdi_model.specs.Step.{Step, powerUp, command}
 use Rattle.cdi_model.specs.Table.{Decision, isAccepted}
-use Rattle.cdi_model.specs.Model.{Cells, isValid, responseBufferMin, refusalOf, decideCommand, decidePayload, decideFrame, decideBlock, decide}
+use Rattle.cdi_model.specs.Model.{Cells, isValid, responseBufferMin, refusalBy, decideCommand, decidePayload, decideFrame, decideBlock, decide}
 
 abbrev Told : Decision → Type 0
-Told d = isAccepted d ≡ eqb (refusalOf d) none
+Told d = isAccepted d ≡ eqb (refusalBy d) none
 
 -- a number of a list that lacks 0 is not 0
 not-none : (ms : List ℕ) (n : ℕ) → among ms none ≡ false → among ms n ≡ true → eqb n none ≡ false
@@ -39,7 +39,7 @@ unfolding decidePayload
 frame-told block (accepted span) e = payload-told (payloadIn block span) (validatePayload (payloadIn block span)) refl
 frame-told block (refused n) e = sym (not-none frameRefusals n refl (frame-refusal wakeLimit block n e))
 
-pub accepted-is-none : (s : Cells) (x : Step) → isAccepted (decide s x) ≡ eqb (refusalOf (decide s x)) none
+pub accepted-is-none : (s : Cells) (x : Step) → isAccepted (decide s x) ≡ eqb (refusalBy (decide s x)) none
 unfolding decide decideBlock
 accepted-is-none s powerUp = choice Told (isValid s) (λ _. refl) (λ _. refl)
 accepted-is-none s (command block response) =

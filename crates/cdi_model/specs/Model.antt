@@ -160,17 +160,18 @@ responsePayload payload (program k w) v = ackResponse ∷ noError ∷ payload
 responsePayload payload setDefault v = ackResponse ∷ noError ∷ payload
 responsePayload payload eraseAll v = ackResponse ∷ noError ∷ payload
 
-abbrev pub refusalOf : Decision → ℕ
-refusalOf (refuse n) = n
-refusalOf (execute payload a) = none
-refusalOf executePowerUp = none
+abbrev pub refusalBy : Decision → ℕ
+refusalBy (refuse n) = n
+refusalBy (execute payload a) = none
+refusalBy executePowerUp = none
 
 -- a response is written from the first byte of its buffer on, and the bytes behind it stay
 abbrev pub respond : List ℕ → List ℕ → StepResult
 respond response frame = responded none (length frame) (written response frame)
 
+-- a power-up is never decided on a block
 unfoldable pub resultOf : Step → Decision → List ℕ → StepResult
-resultOf powerUp d v = poweredUp (refusalOf d)
+resultOf powerUp d v = poweredUp (refusalBy d)
 resultOf (command block response) (refuse n) v = responded n 0 response
 resultOf (command block response) (execute payload a) v = respond response (responseFrame (responsePayload payload a v))
 resultOf (command block response) executePowerUp v = responded none 0 response

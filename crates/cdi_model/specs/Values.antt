@@ -17,6 +17,7 @@ abbrev pub byteOf : List ℕ → ℕ
 byteOf v = getD v 0 0
 
 -- ---- accepted values
+-- items 11, 12 and 25: all; 13: signed, -20 to +10 dBm; 14: bits 5 to 7 zero; 15: 0 to 6
 abbrev pub acceptedSetting : Setting → ℕ → Bool
 acceptedSetting lineMask b = true
 acceptedSetting latchMask b = true
@@ -25,14 +26,14 @@ acceptedSetting controlSource b = ltb b 0x20
 acceptedSetting messageSelect b = leb b 6
 acceptedSetting interruptMask b = true
 
--- the first byte is the channel, the second the count of readings, the third the reference; the two bytes of the offset are free
+-- item 16: channel 04 to 07, FE or FF; 1 to 16 readings averaged; reference 0 or 1; any offset
 abbrev pub acceptedInput : List ℕ → Bool
 acceptedInput v =
     ((leb 0x04 (getD v 0 0) && leb (getD v 0 0) 0x07) || (eqb (getD v 0 0) 0xFE || eqb (getD v 0 0) 0xFF)) &&
     (leb 1 (getD v 1 0) && leb (getD v 1 0) 16) &&
     leb (getD v 2 0) 1
 
--- with the address 00 00 00 00 the mask is 00
+-- item 18: with the address 00 00 00 00 the mask is 00
 abbrev pub acceptedSlot : List ℕ → Bool
 acceptedSlot v = not (allZero (take 4 v)) || allZero (drop 4 v)
 
@@ -42,7 +43,7 @@ accepted (input n) v = acceptedInput v
 accepted (slot i) v = acceptedSlot v
 accepted address v = true
 
--- of the live flags the lowest three bits are the mode; three other bits are always clear
+-- the live flags: the mode (bits 0 to 2) is at most 4, and bits 3, 6 and 7 are zero
 abbrev pub acceptedFlags : ℕ → Bool
 acceptedFlags flags = leb (bitAnd flags modeMask) modeMax && eqb (bitAnd flags flagsZero) 0
 
@@ -58,6 +59,7 @@ defaultSetting interruptMask = 0x00
 abbrev pub defaultValue : Key → List ℕ
 defaultValue (setting s) = defaultSetting s ∷ []
 defaultValue (input n) = 0xFF ∷ 0x01 ∷ 0x00 ∷ 0x00 ∷ 0x00 ∷ []
+-- of slots and the address there is no default
 defaultValue (slot i) = []
 defaultValue address = []
 
@@ -65,7 +67,7 @@ defaultValue address = []
 abbrev pub emptySlot : List ℕ
 emptySlot = 0x00 ∷ 0x00 ∷ 0x00 ∷ 0x00 ∷ 0x00 ∷ []
 
--- both RSSI bytes where no signal was measured
+-- both RSSI bytes, as a power-up and the factory leave them
 abbrev pub noRssi : List ℕ
 noRssi = 0x80 ∷ 0x80 ∷ []
 
@@ -75,7 +77,7 @@ unfoldable pub upToZero : List ℕ → List ℕ
 upToZero [] = []
 upToZero (b ∷ bs) = cond (eqb b 0) (b ∷ []) (b ∷ upToZero bs)
 
--- bit n of a byte, told by its mask, is 1
+-- a byte shares a set bit with a mask
 abbrev pub isSet : ℕ → ℕ → Bool
 isSet mask byte = not (eqb (bitAnd byte mask) 0)
 

@@ -66,7 +66,7 @@ storesBy executePowerUp = true
 abbrev pub responseTo : ModuleState → Command → List ℕ
 responseTo s c = responseFrame (responsePayload c (valueRead s c))
 
--- the result by the decision: a refusal has the length 0 and writes nothing
+-- the result by the decision: a refusal has the length 0 and writes nothing; a power-up is never decided on a block
 abbrev pub blockResult : ModuleState → List ℕ → Decision → StepResult
 blockResult s response (refuse n) = responded n 0 response
 blockResult s response (execute c) = responded none (length (responseTo s c)) (written response (responseTo s c))

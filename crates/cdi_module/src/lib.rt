@@ -141,7 +141,7 @@ pub fn execute(state: ModuleState, block: &[u8], response: &mut [u8]) -> Executi
     }
 }
 
-// Powers a module up: its working settings are taken from the non-volatile ones, and RSSI, events and flags are cleared.
+// Powers a module up: its working settings are taken from the non-volatile ones, RSSI is 80 80, events and flags are 00.
 pub fn power_up(state: ModuleState) -> PowerUp
     ensures { λ r. ⌜ (r .state ≡ step state powerUp) × (poweredUp (r .refusal) ≡ resultOf state powerUp) ⌝ }
 {
