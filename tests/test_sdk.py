@@ -140,6 +140,15 @@ def check_functions(header):
     return len(declared)
 
 
+def check_keeps_nothing():
+    """The library holds a state for the length of a call and no longer: it has no memory of its own that can be written, and calls
+    nothing that could have."""
+    sizes = [row.split() for row in output("size", ARCHIVE).splitlines()[1:]]
+    expect("the bytes of writable memory in its objects", {("0", "0")}, {(data, bss) for _, data, bss, *_ in sizes})
+    called = {line.split()[-1] for line in output("nm", "--undefined-only", ARCHIVE).splitlines() if " U " in line}
+    expect("the functions that it calls", {"memcpy", "memset"}, called)
+
+
 def layout_claims():
     """What the tests' own structs say of the header's: C that is compiled where all of it holds."""
     claims = []
@@ -206,6 +215,7 @@ def main():
     numbers = check_numbers(header)
     check_items(header)
     functions = check_functions(header)
+    check_keeps_nothing()
     with tempfile.TemporaryDirectory() as folder:
         claims = check_layout(folder, header)
         check_controller(folder)
