@@ -16,7 +16,7 @@ ROOT = pathlib.Path(__file__).resolve().parent.parent
 
 
 class Problem(Exception):
-    """The library can't be built, or it differs from the reference."""
+    """What is tested can't be built or run, or it differs from the reference."""
 
 
 def run_test(name, main):

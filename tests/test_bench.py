@@ -11,7 +11,6 @@ first difference ends the run with exit status 1.
 
 import collections
 import itertools
-import os
 import pathlib
 import random
 import subprocess
@@ -63,6 +62,7 @@ from test_replay import (
     log_of,
     padding,
     run_on_file,
+    runnable,
     text_of,
 )
 
@@ -400,8 +400,7 @@ def compare_modules(folder):
 
 
 def main():
-    if not os.access(REPLAY, os.X_OK):
-        raise Problem(f"there is no program {REPLAY}; build it first")
+    runnable(REPLAY)
     with tempfile.TemporaryDirectory() as folder:
         compare_logs(pathlib.Path(folder))
         compare_modules(pathlib.Path(folder))

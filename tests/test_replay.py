@@ -26,22 +26,24 @@ import tty
 sys.dont_write_bytecode = True  # leaves no files beside the tests
 
 import reference
+from library import ROOT, Problem, run_test
 from payloads import likely_payload, permitted_commands
 from reference import ERASE_ALL_ADDRESSES, PROGRAM, READ, READ_NV, SET_DEFAULT, WRITE
 
-ROOT = pathlib.Path(__file__).resolve().parent.parent
 REPLAY = ROOT / "target" / "bin" / "replay"
 SEED = 20240002
 PATIENCE = 60  # seconds that a single run of the program may take
 
-
-class Problem(Exception):
-    """The program can't be run, or it differs from the reference."""
-
-
 # ---- Running the program ---------------------------------------------------------------------
 
 Run = collections.namedtuple("Run", "output errors status")
+
+
+def runnable(program):
+    """The program, if it is there to be run."""
+    if not os.access(program, os.X_OK):
+        raise Problem(f"there is no program {program}; build it first")
+    return program
 
 
 def run_on_file(program, log):
@@ -1045,9 +1047,7 @@ def compare_all(program):
 
 def main():
     program = pathlib.Path(sys.argv[1]).resolve() if len(sys.argv) > 1 else REPLAY
-    if not os.access(program, os.X_OK):
-        raise Problem(f"there is no program {program}; build it first")
-    compare = compare_all(program)
+    compare = compare_all(runnable(program))
     refused = ", ".join(f"{number}: {compare.refused[number]}" for number in REFUSALS)
     print(
         f"{compare.lines} lines of {compare.bytes} bytes agreed: "
@@ -1057,7 +1057,4 @@ def main():
 
 
 if __name__ == "__main__":
-    try:
-        main()
-    except Problem as problem:
-        sys.exit(f"replay: {problem}")
+    run_test("replay", main)
