@@ -37,30 +37,6 @@ EDGE_VALUES = {
 }
 
 
-# The order of refusals, where a payload breaks several rules at once.
-PAYLOAD_ORDER = (
-    ("", 3),
-    ("05", 7),  # an unserved command, before its missing item
-    ("83", 7),
-    ("05 17", 7),
-    ("01", 8),  # a missing item
-    ("81 00", 8),  # a long 81
-    ("82 00", 8),
-    ("02 17 00 00", 9),  # an unserved item, before its length
-    ("02 01", 10),  # a command that isn't permitted, before its length
-    ("04 26", 10),
-    ("03 25 00", 10),
-    ("01 16", 8),  # any other wrong length, before index and value
-    ("01 15 00", 8),
-    ("02 15", 8),
-    ("02 15 07 00", 8),
-    ("04 18 28 00 00 00 00", 8),
-    ("04 18 28 00 00 00 00 01", 11),  # the index, before the value
-    ("02 16 00 03 00 02 00 00", 11),
-    ("02 16 01 03 00 02 00 00", 12),
-)
-
-
 def permitted_commands():
     """Every command with an item that permits it, and 81 and 82, which have none."""
     permitted = {(SET_DEFAULT, None), (ERASE_ALL_ADDRESSES, None)}

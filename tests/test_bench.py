@@ -26,7 +26,6 @@ import traffic
 from library import POINTER, SIZE, Calls, Memory, Problem, load, run_test
 from payloads import (
     COMMANDS,
-    PAYLOAD_ORDER,
     edge_payloads,
     frame,
     likely_payload,
@@ -49,6 +48,7 @@ from states import (
     slot_edges,
 )
 from test_entries import FILLER, OUTCOME, random_block, random_buffer
+from test_numbers import refused_payloads
 from test_replay import (
     BORDER,
     HOSTILE_LINES,
@@ -157,8 +157,8 @@ def check_traffic(logs, rng):
 def check_payloads(logs, rng):
     """Commands, items, indexes, values and lengths at both sides of their limits and with every byte
     in their place, and payloads that break several rules at once."""
-    order = [bytes.fromhex(text) for text, _ in PAYLOAD_ORDER]
-    for payloads in (order, edge_payloads(), swept_commands(), swept_values()):
+    refused = [bytes.fromhex(text) for _, text in refused_payloads()]
+    for payloads in (refused, edge_payloads(), swept_commands(), swept_values()):
         lines = [line for payload in payloads for line in shown(payload)]
         logs.log("payloads", log_of(fill_cells() + lines + dump()))
 

@@ -18,7 +18,6 @@ sys.dont_write_bytecode = True  # leaves no files beside the tests
 import reference
 from library import BYTE, POINTER, SIZE, Calls, Memory, Problem, load, run_test, sdk, struct
 from payloads import (
-    PAYLOAD_ORDER,
     WRAPS,
     edge_payloads,
     frame,
@@ -854,20 +853,6 @@ WRITER_PAYLOADS = tuple(
 WAKES = (*range(18), 2**8, 2**8 + 16, 2**16, 2**32, 2**32 + 1, 2**63, 2**64 - 1)
 
 
-def check_payload_order(compare, rng):
-    """13, 14, then the payload's refusal, for the writer; the same of the payload in a block."""
-    for text, refusal in PAYLOAD_ORDER:
-        payload = bytes.fromhex(text)
-        for wake, size in itertools.product((0, 16, 17, 2**64 - 1), (0, 26, 27, 40)):
-            wanted = 13 if size < 27 else 14 if wake > 16 else refusal
-            buffer = rng.randbytes(size)
-            came = compare.encode(payload, wake, buffer)
-            inputs = {"payload": payload, "wake": wake, "buffer": buffer}
-            compare.same("a closed command", (wanted, 0, buffer), came, **inputs)
-        if payload:
-            compare.literal(FILLED, frame(0, payload).hex(), refusal)
-
-
 def check_writer(compare, rng):
     """Every wake count with every size of the buffer, and sizes that wrap."""
     for payload, wake, size in itertools.product(WRITER_PAYLOADS, WAKES, range(41)):
@@ -994,7 +979,6 @@ CHECKS = (
     ("payloads by command, item, length, index, value", check_payloads),
     ("served commands", check_served_commands),
     ("random blocks", check_random_blocks),
-    ("order of payload refusals", check_payload_order),
     ("command writer", check_writer),
     ("written frames read back", check_written_frames),
     ("readouts", check_readout),

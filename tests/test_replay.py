@@ -440,31 +440,6 @@ STORE_RUN = (
     ("80 55 82 03 10", "80 55 86 C2 10 FF FF FF FF"),
 )
 
-# Blocks that break several rules at once: the first by the paper's order is told.
-ORDER_RUN = (
-    ("81 55 80", "refused 4"),  # the frame's bytes from the left
-    ("80 54 80", "refused 4"),
-    ("80 55 00 01", "refused 5"),
-    ("80 55 83 05", "refused 3"),  # the frame before the payload
-    ("80 55 81 05 15", "refused 6"),
-    ("80 55 81 05", "refused 7"),  # the command before its missing item
-    ("80 55 82 05 17", "refused 7"),
-    ("80 55 81 83", "refused 7"),
-    ("80 55 81 04", "refused 8"),  # a missing item
-    ("80 55 82 81 15", "refused 8"),
-    ("80 55 84 02 17 00 00", "refused 9"),  # the item before the length
-    ("80 55 82 02 01", "refused 10"),  # the permission before the length
-    ("80 55 84 04 26 00 00", "refused 10"),
-    ("80 55 83 02 18 28", "refused 10"),  # the permission before the index
-    ("80 55 82 01 16", "refused 8"),  # the length before the index
-    ("80 55 84 01 16 03 00", "refused 8"),
-    ("80 55 87 04 18 28 00 00 00 00", "refused 8"),
-    ("80 55 84 02 15 07 00", "refused 8"),  # the length before the value
-    ("80 55 88 04 18 28 00 00 00 00 01", "refused 11"),  # the index before the value
-    ("80 55 88 02 16 00 03 00 02 00 00", "refused 11"),
-    ("80 55 88 02 16 01 03 00 02 00 00", "refused 12"),
-)
-
 # Lines and their line feeds; what is no line feed or space belongs to the line.
 FORM_EXAMPLES = (
     ("", ""),
@@ -504,7 +479,6 @@ def check_closed_runs(compare, rng):
         "name": NAME_RUN,
         "status": STATUS_RUN,
         "stores": STORE_RUN,
-        "order of refusals": ORDER_RUN,
     }
     for name, run in runs.items():
         given = log_of(line.encode("ascii") for line, _ in run)
