@@ -6,24 +6,27 @@ The tables are written from the paper. What is refused stands in them as bytes, 
 there is one, and beside it what lies just inside and is accepted. Where two refusals apply at once
 the entry gives the first in its order, and the second once the first fault is mended. A refusal has
 the length or result 0 and leaves every byte of the state and of the buffers. Each call is compared
-with reference.py, too. The first difference ends the run with exit status 1.
+with reference.py, too. docs/TRACE.md has to tell the same numbers, entries and orders. The first
+difference ends the run with exit status 1.
 """
 
 import collections
 import itertools
+import re
 import sys
 from functools import partial
 
 sys.dont_write_bytecode = True  # leaves no files beside the tests
 
 import reference
-from library import Problem, load, run_test, sdk
+from library import ROOT, Problem, load, run_test, sdk
 from payloads import frame
 from reference import FACTORY_STATE
 from states import FILLED, changed, packed
 from test_entries import FILLED_IMAGE, FILLER, NO_MODE, SIGNATURES, Comparison, with_bytes
 from test_replay import REPLAY, dump, fill_cells, log_of, run_on_file, runnable, text_of
 from test_replay import Comparison as Replays
+from test_trace import TRACE, homes_of, read, rows_of, searched
 
 # ---- Document 01's orders --------------------------------------------------------------------
 
@@ -609,6 +612,90 @@ def check_neighbours(numbers):
     return found
 
 
+# ---- What docs/TRACE.md tells ----------------------------------------------------------------
+
+# Where the entries stand, and the public functions behind them: the numbers that each can give, by
+# its contract.
+C_SOURCE, REPLAY_SOURCE = "crates/cdi_c/src/lib.rt", "crates/replay/src/main.rt"
+BEHIND = {
+    ("cdi_module", "execute"): OWN["cdi_execute"],
+    ("cdi_module", "respond"): OWN["cdi_execute"],
+    ("cdi_module", "respond_known"): OWN["cdi_execute"],
+    ("cdi_module", "power_up"): OWN["cdi_power_up"],
+    ("cdi_image", "save"): OWN["cdi_save"],
+    ("cdi_image_load", "load"): OWN["cdi_load"],
+    ("cdi_host", "encode_command"): OWN["cdi_encode_command"],
+    ("analog", "readout"): OWN["cdi_readout"],
+    ("cdi_frame", "read_frame"): {3, 4, 5, 6},
+    ("cdi_command", "validate_payload"): {3, 7, 8, 9, 10, 11, 12},
+    ("cdi_item", "find_item"): {9},
+    # a log on any state, with 22 bytes for each response
+    ("cdi_replay", "replay_lines"): {2, *OWN["replay"]},
+    ("leaf_probe", "probe_replay_lines"): {2, *OWN["replay"]},
+}
+
+# The file of the numbers' names, and definitions that cite such a name as a sample and give none.
+NAMES = "crates/refusal/specs/Refusal.antt"
+SAMPLES = {
+    ("crates/examples/specs/Examples.antt", "examples"),
+    ("crates/cdi_model/specs/Tight.antt", "sampleDecisions"),
+}
+
+
+def home(entry):
+    """The file and the name of an entry; the program has no name of its own there."""
+    return (REPLAY_SOURCE, "") if entry == "replay" else (C_SOURCE, entry)
+
+
+def named_in(cell):
+    """The files and names in a cell; a file that no name follows has the name ""."""
+    homes = [(path, name or "") for path, name in homes_of(cell)]
+    followed = {path for path, name in homes if name}
+    return [(path, name) for path, name in homes if name or path not in followed]
+
+
+def trace_rows(cells):
+    """The rows of so many cells in the trace's section on these numbers."""
+    rows = [row for _, section, row in rows_of(read(TRACE)) if section == "## Refusal numbers"]
+    split = (row.strip("| ").split(" | ") for row in rows)
+    return [row for row in split if len(row) == cells]
+
+
+def citing(names):
+    """Each number, with the file and the name of a definition that cites it by its name."""
+    for path in sorted(ROOT.glob("crates/*/specs/*.antt")):
+        file = path.relative_to(ROOT).as_posix()
+        parts = re.split(r"^\w+ pub (\w+)(?= :)", searched(file), flags=re.M)
+        for definition, text in zip(parts[1::2], parts[2::2]):
+            if file != NAMES and (file, definition) not in SAMPLES:
+                cited = set(re.findall(r"\w+", text)) & set(names)
+                yield from ((names[name], file, definition) for name in cited)
+
+
+def check_trace_numbers(numbers):
+    """The trace's table of numbers: their names, every definition that cites one, the entries that
+    were provoked here, and the functions behind them."""
+    lines = re.findall(r"^(\w+) = (\d+)$", read(NAMES), re.M)
+    names = {name: int(number) for name, number in lines if name != "none"}
+    definitions, functions = set(), set()
+    for number, _, definition, entries, _ in trace_rows(5):
+        definitions |= {(int(number), *named) for named in named_in(definition)}
+        functions |= {(int(number), *named) for named in named_in(entries)}
+    wanted = {(number, NAMES, name) for name, number in names.items()} | set(citing(names))
+    differ("definitions by number", wanted, "the crates' specs", definitions, TRACE)
+    wanted = {(number, *home(entry)) for entry, number in numbers.refusals}
+    for (crate, name), given in BEHIND.items():
+        wanted |= {(number, f"crates/{crate}/src/lib.rt", name) for number in given}
+    differ("functions by number", wanted, "this test", functions, TRACE)
+
+
+def check_trace_orders():
+    """The trace's table of orders."""
+    wanted = {(*home(entry), order) for entry, order in ORDERS.items()}
+    told = {(*named, order) for entry, order, _ in trace_rows(3) for named in named_in(entry)}
+    differ("orders", wanted, "this test", told, TRACE)
+
+
 # ---- The run ---------------------------------------------------------------------------------
 
 
@@ -625,6 +712,8 @@ def main():
         numbers.orders(*row)
     neighbours_seen = check_neighbours(numbers)
     strangers = check_strangers(numbers)
+    check_trace_numbers(numbers)
+    check_trace_orders()
     print(
         f"{refusals} refusals of {len({n for _, n in numbers.refusals})} numbers through "
         f"{len(ORDERS)} entries, {numbers.inside} accepted beside them, {len(numbers.pairs)} pairs "

@@ -140,4 +140,5 @@ def main():
     print(f"{homes + edits} homes in {len(rows)} rows, {files} spec files")
 
 
-main()
+if __name__ == "__main__":
+    main()
