@@ -27,14 +27,6 @@ put-at f l i j a d h =
     (λ p. rw p (ap f (getD-set-other l j i a d (eqb-false i j p))))
 
 -- ---- settings
-pub held-at : (t : Settings) (x : Setting) → settingHeld t x ≡ getD (settingBytes t) (settingNumber x) 0
-held-at t lineMask = refl
-held-at t latchMask = refl
-held-at t txPower = refl
-held-at t controlSource = refl
-held-at t messageSelect = refl
-held-at t interruptMask = refl
-
 with-held : (t : Settings) (l : List ℕ) (x : Setting) → settingHeld (withBytes t l) x ≡ getD l (settingNumber x) 0
 with-held t l lineMask = refl
 with-held t l latchMask = refl
@@ -42,6 +34,10 @@ with-held t l txPower = refl
 with-held t l controlSource = refl
 with-held t l messageSelect = refl
 with-held t l interruptMask = refl
+
+-- settings are what their own bytes make of them
+pub held-at : (t : Settings) (x : Setting) → settingHeld t x ≡ getD (settingBytes t) (settingNumber x) 0
+held-at t x = with-held t (settingBytes t) x
 
 number-below : (x : Setting) → settingNumber x < 6
 number-below lineMask = omega arith
