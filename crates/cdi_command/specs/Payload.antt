@@ -4,7 +4,7 @@ use mathlib.Core.Path.{_≡_}
 use mathlib.Core.Bool.{Bool, true, false, cond, _&&_}
 use mathlib.Core.List.{List, [], _∷_, _++_}
 use lib.Dec.{eqb}
-use lib.ListN.{take}
+use lib.ListN.{take, drop}
 use Rattle.refusal.specs.Refusal.{accepted}
 use Rattle.cdi_item.specs.declared.Item.{Item}
 use Rattle.cdi_item.specs.declared.Value.{Value}
@@ -14,7 +14,7 @@ use Rattle.cdi_command.specs.declared.Index.{Index}
 use Rattle.cdi_command.specs.declared.Index.the-variants.{Slot, Input}
 use Rattle.cdi_command.specs.declared.Command.{Command}
 use Rattle.cdi_command.specs.declared.Command.the-variants.{Read, ReadIndexed, ReadNv, ReadNvIndexed, Write, WriteIndexed, Program, ProgramIndexed, SetDefault, EraseAll}
-use Rattle.cdi_command.specs.Command.{read, write, readNv, program, setDefault, eraseAll}
+use Rattle.cdi_command.specs.Command.{read, write, readNv, program, setDefault, eraseAll, payloadCode}
 
 abbrev pub indexByte : Index → ℕ
 indexByte (Slot i) = i .0
@@ -71,13 +71,13 @@ ackResponse = 0xC0
 abbrev pub noError : ℕ
 noError = 0x00
 
--- the payload of the response to an accepted command: a read command's has its item and index again and then the value that is
--- read, any other command's has the whole of its payload again
-abbrev pub responsePayload : Command → List ℕ → List ℕ
-responsePayload c value =
-    cond (eqb (commandCode c) read) (readResponse ∷ commandArguments c ++ value)
-    (cond (eqb (commandCode c) readNv) (readNvResponse ∷ commandArguments c ++ value)
-    (ackResponse ∷ noError ∷ commandPayload c))
+-- the payload of the response to an accepted command, by the command's own payload: a read command's has all behind the code again,
+-- which is the item and the index if there is one, and then the value that is read; any other command's has the whole of it again
+abbrev pub responsePayload : (payload value : List ℕ) → List ℕ
+responsePayload payload value =
+    cond (eqb (payloadCode payload) read) (readResponse ∷ drop 1 payload ++ value)
+    (cond (eqb (payloadCode payload) readNv) (readNvResponse ∷ drop 1 payload ++ value)
+    (ackResponse ∷ noError ∷ payload))
 
 -- an item of the list that permits the command with the mark, and is indexed or not
 pub record Permitted (x : Item) (mark : ℕ) (indexed : Bool) : Type 0 where

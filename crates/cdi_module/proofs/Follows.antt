@@ -112,8 +112,8 @@ read-nv-response code e payload v =
     (λ _. choice P (eqb code item.status) (λ f. cc)
     (λ _. choice P (eqb code item.events) (λ _. refl) (λ _. refl))))))))
 
--- the response's payload, of a command by its parts and of its action by the payload that was handed in
-payload-agrees : (c : Command) → WellFormed c → (v : List ℕ) → responsePayload c v ≡ theirs.responsePayload (commandPayload c) (actionOf c) v
+-- the payload of the response to a command's payload is that of its action
+payload-agrees : (c : Command) → WellFormed c → (v : List ℕ) → responsePayload (commandPayload c) v ≡ theirs.responsePayload (commandPayload c) (actionOf c) v
 unfolding actionOf theirs.responsePayload
 payload-agrees (Read x) p v = sym (read-response (sourceOf (x .code)) (commandPayload (Read x)) v)
 payload-agrees (ReadIndexed x i) p v = refl

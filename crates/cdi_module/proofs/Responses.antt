@@ -1,23 +1,40 @@
--- The payload of the response to a command that reads nothing: the command's own behind two bytes.
+-- The response to a command that was accepted fits into the least buffer that is taken.
 -- Assumes nothing.
 use Prim.Native.Nat.{ℕ, _≤_}
-use mathlib.Core.Path.{_≡_, subst, ap}
-use mathlib.Core.Bool.{false}
-use mathlib.Core.List.{List, _∷_}
-use lib.Dec.{eqb}
-use lib.ListN.{length}
-use Rattle.logic.proofs.Choice.{neither}
+use mathlib.Core.Path.{_≡_}
+use mathlib.Core.List.{List}
+use native.Mathlib.Nat.{min-le-left}
+use native.Mathlib.Omega.{arith}
+use lib.ListN.{length, length-take}
+use Rattle.refusal.specs.Refusal.{accepted}
+use Rattle.cdi_frame.specs.Layout.{responseFrame}
 use Rattle.cdi_command.specs.declared.Command.{Command}
-use Rattle.cdi_command.specs.Command.{read, readNv}
-use Rattle.cdi_command.specs.Payload.{commandCode, commandPayload, payloadMax, responsePayload, ackResponse, noError}
-use Rattle.cdi_command.proofs.Accepted.{payload-bounds}
-use Rattle.cdi_store.specs.Store.{isRead}
+use Rattle.cdi_command.specs.declared.Command.the-variants.{Read, ReadIndexed, ReadNv, ReadNvIndexed, Write, WriteIndexed, Program, ProgramIndexed, SetDefault, EraseAll}
+use Rattle.cdi_command.specs.Command.{validatePayload}
+use Rattle.cdi_command.specs.Payload.{commandPayload, responsePayload}
+use Rattle.cdi_command.proofs.Accepted.{payload-bounds, accepted-payload}
+use Rattle.cdi_value.specs.declared.Shown.{Shown}
+use Rattle.cdi_value.specs.Value.{valueMax, shownBytes}
+use Rattle.cdi_module.specs.Value.{valueRoom}
+use Rattle.cdi_module.specs.Module.{responseMax}
 
-module _ (c : Command) (p : List ℕ) (is : commandPayload c ≡ p) where
-  pub echoed : (v : List ℕ) → isRead c ≡ false → responsePayload c v ≡ ackResponse ∷ noError ∷ p
-  echoed v e =
-      let n = neither (eqb (commandCode c) read) (eqb (commandCode c) readNv) e in
-      rw (n .0, n .1) (ap (λ (l : List ℕ). ackResponse ∷ noError ∷ l) is)
+-- there is a code, n bytes of value are no more than the longest has, and the response fits
+abbrev pub Fits : (payload v : List ℕ) → ℕ → Type 0
+Fits payload v n = (1 ≤ length payload) × (n ≤ valueMax) × (length (responseFrame (responsePayload payload v)) ≤ responseMax)
 
-  pub echo-short : length p ≤ payloadMax
-  echo-short = subst (λ (l : List ℕ). length l ≤ payloadMax) is (payload-bounds c .1)
+fits : (c : Command) (v : List ℕ) (n : ℕ) → length v ≤ n → n ≤ valueRoom c → Fits (commandPayload c) v n
+fits (Read x) v n l h = omega arith
+fits (ReadIndexed x i) v n l h = omega arith
+fits (ReadNv x) v n l h = omega arith
+fits (ReadNvIndexed x i) v n l h = omega arith
+fits (Write x w) v n l h = omega (arith, payload-bounds (Write x w) .1)
+fits (WriteIndexed x i w) v n l h = omega (arith, payload-bounds (WriteIndexed x i w) .1)
+fits (Program x w) v n l h = omega (arith, payload-bounds (Program x w) .1)
+fits (ProgramIndexed x i w) v n l h = omega (arith, payload-bounds (ProgramIndexed x i w) .1)
+fits SetDefault v n l h = omega arith
+fits EraseAll v n l h = omega arith
+
+pub response-fits : (payload : List ℕ) (c : Command) → validatePayload payload ≡ accepted c → (x : Shown) → x .length ≤ valueRoom c
+    → Fits payload (shownBytes x) (x .length)
+response-fits payload c is x h =
+    rw (← accepted-payload payload c is) (fits c (shownBytes x) (x .length) (rw length-take (min-le-left (x .length) (length (x .bytes)))) h)

@@ -1,24 +1,36 @@
 -- What `respond` tells of a block, and what is stored by it.
 -- Assumes nothing.
 use Prim.Native.Nat.{ℕ}
-use mathlib.Core.Path.{_≡_, refl, sym, subst, ap, _∙_}
+use mathlib.Core.Path.{_≡_, refl, sym, subst, ap, ap₂, _∙_}
 use mathlib.Core.Bool.{Bool, true, false, true≢false, cond, _||_}
 use mathlib.Core.List.{List}
 use Rattle.logic.proofs.Choice.{by-cases}
-use Rattle.refusal.specs.Refusal.{Result, accepted, refused}
+use Rattle.refusal.specs.Refusal.{Result, accepted, refused, none}
+use Rattle.cdi_frame.specs.Layout.{responseFrame}
 use Rattle.cdi_command.specs.declared.Command.{Command}
-use Rattle.cdi_command.specs.Command.{validatedResult}
+use Rattle.cdi_command.specs.Command.{validatedResult, validatePayload}
+use Rattle.cdi_command.specs.Payload.{responsePayload}
+use Rattle.cdi_command.proofs.Accepted.{accepted-payload}
 use Rattle.cdi_state.specs.declared.ModuleState.{ModuleState}
 use Rattle.cdi_state.specs.Valid.{isValid}
 use Rattle.cdi_store.specs.Store.{stateFor}
 use Rattle.cdi_store.proofs.Tags.{nothing-stored as kept}
 use Rattle.cdi_model.specs.Step.{command, responded}
 use Rattle.cdi_module.specs.declared.Decided.{Decided}
-use Rattle.cdi_module.specs.Module.{Decision, refuse, execute, executePowerUp, decided, decideIf, decide, stateBy, storesBy, refusedAs, Responds, step, blockResult, resultOf}
+use Rattle.cdi_module.specs.Value.{valueRead}
+use Rattle.cdi_module.specs.Module.{Decision, refuse, execute, executePowerUp, decided, decideIf, decide, stateBy, storesBy, refusedAs, Responds, Writes, step, blockResult, resultOf}
 
 -- a refusal leaves the buffer
 pub refusal-told : (s : ModuleState) (n : ℕ) (buffer : List ℕ) (r : Decided) → r ≡ refusedAs n → Responds s (refuse n) buffer buffer r
 refusal-told s n buffer r e = subst (Responds s (refuse n) buffer buffer) (sym e) (record { decides = refl; tells = refl; results = refl })
+
+-- the response to an accepted payload, once it is written, is the result
+pub response-told : (s : ModuleState) (payload : List ℕ) {c : Command} {value before after : List ℕ} {n : ℕ}
+    → validatePayload payload ≡ accepted c → value ≡ valueRead s c → Writes (responseFrame (responsePayload payload value)) before after n
+    → responded none n after ≡ blockResult s before (execute c)
+response-told s payload e f w =
+    let told = rw (f, ← accepted-payload payload _ e) at w in
+    ap₂ (responded none) (told .size) (told .over)
 
 -- what is stored for a payload is what the decision on it stores
 pub stored-by : (s : ModuleState) (r : Result Command) → stateFor s r ≡ stateBy s (decided r)

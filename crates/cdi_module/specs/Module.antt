@@ -13,7 +13,7 @@ use Rattle.cdi_frame.specs.Layout.{responseFrame}
 use Rattle.cdi_command.specs.declared.Command.{Command}
 use Rattle.cdi_command.specs.declared.Validated.the-variants.{Refused}
 use Rattle.cdi_command.specs.Command.{validatedResult, validatePayload}
-use Rattle.cdi_command.specs.Payload.{responsePayload}
+use Rattle.cdi_command.specs.Payload.{commandPayload, responsePayload}
 use Rattle.cdi_state.specs.declared.ModuleState.{ModuleState}
 use Rattle.cdi_state.specs.Valid.{isValid}
 use Rattle.cdi_model.specs.Step.{Step, powerUp, command, StepResult, poweredUp, responded}
@@ -64,7 +64,7 @@ storesBy executePowerUp = true
 
 -- the response to a command, which reads the state as the command found it
 abbrev pub responseTo : ModuleState → Command → List ℕ
-responseTo s c = responseFrame (responsePayload c (valueRead s c))
+responseTo s c = responseFrame (responsePayload (commandPayload c) (valueRead s c))
 
 -- the result by the decision: a refusal has the length 0 and writes nothing; a power-up is never decided on a block
 abbrev pub blockResult : ModuleState → List ℕ → Decision → StepResult
@@ -96,3 +96,8 @@ pub record Responds (s : ModuleState) (d : Decision) (before after : List ℕ) (
   pub decides : decided (validatedResult (r .validated)) ≡ d
   pub tells : r .stores ≡ storesBy d
   pub results : responded (r .outcome .refusal) (r .outcome .length) after ≡ blockResult s before d
+
+-- what a writer of a response promises: p stands over the front of the buffer, and its length is told
+pub record Writes (p before after : List ℕ) (told : ℕ) : Type 0 where
+  pub size : told ≡ length p
+  pub over : after ≡ written before p

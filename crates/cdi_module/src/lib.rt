@@ -64,7 +64,9 @@ fn respond_payload(state: ModuleState, payload: &[u8], response: &mut [u8]) -> D
         Validated::Refused(number) => refused(number),
         Validated::Accepted(command) => {
             let shown = value::read(state, command);
-            let length = response::write_response(command, shown, payload, response);
+            let n = shown.length;
+            let bytes = shown.bytes;
+            let length = response::write_response(payload, &bytes[0..n], response);
             Decided {
                 validated: Validated::Accepted(command),
                 stores: cdi_store::stores(Validated::Accepted(command)),

@@ -1,15 +1,24 @@
 -- A refused payload leaves the buffer; to an accepted one the response is written by the function for that.
 -- Assumes nothing.
-use mathlib.Core.Path.{refl, sym, ap, ap₂, _∙_}
-use mathlib.Core.List.{List}
-use Prim.Native.Nat.{ℕ}
+use mathlib.Core.Path.{_≡_, refl, sym, ap, _∙_}
+use native.Mathlib.Nat.{sub-zero}
+use native.Mathlib.Omega.{arith}
+use lib.ListN.{length}
 use Rattle.cdi_command.specs.Command.{validatedResult}
-use Rattle.cdi_command.proofs.Accepted.{accepted-well-formed, accepted-payload}
-use Rattle.cdi_model.specs.Step.{responded}
-use Rattle.cdi_module.proofs.Told.{refusal-told}
+use Rattle.cdi_command.proofs.Accepted.{accepted-well-formed}
+use Rattle.cdi_value.specs.Value.{valueMax, shownBytes}
+use Rattle.cdi_module.proofs.Responses.{Fits, response-fits}
+use Rattle.cdi_module.proofs.Told.{refusal-told, response-told}
 use borrow.Author.Needs.{needs}
 use Rattle.cdi_module.proofs.respond_payload.Statement.{statement}
 use Rattle.cdi_module.proofs.respond_payload.Tie as tie
+
+-- the value is no longer than the longest, and the response fits
+fits : (r : tie.After-read) → Fits (r .before .before .before .before .before .before .before .args .payload .now) (shownBytes (r .read .result)) (r .read .result .length)
+fits r =
+    let d = r .before .before in
+    let v = d .before .before in
+    response-fits _ _ (sym (v .validate-payload .ensures) ∙ ap validatedResult (d .validated2 .given .1)) _ (r .read .ensures .few)
 
 validate-payload-requires : tie.Need-validate-payload-requires
 validate-payload-requires c κs = search needs
@@ -30,13 +39,21 @@ read-requires c κs =
     let p = v .before .before .before .args .payload .now in
     accepted-well-formed p _ (sym (v .validate-payload .ensures) ∙ ap validatedResult (d .validated2 .given .1))
 
+sub-write-response : tie.Need-sub-write-response
+sub-write-response c = search needs
+
+part-write-response-start : tie.Need-part-write-response-start
+part-write-response-start c = search needs
+
+part-write-response-end : tie.Need-part-write-response-end
+part-write-response-end c =
+    let full : length (c .before .before .read .result .bytes) ≡ valueMax = search needs in
+    omega (arith, fits (c .before .before) .1)
+
 write-response-requires : tie.Need-write-response-requires
 write-response-requires c κs =
-    let r = c .before in
-    let d = r .before .before in
-    let v = d .before .before in
-    let p = v .before .before .before .args .payload .now in
-    (accepted-payload p _ (sym (v .validate-payload .ensures) ∙ ap validatedResult (d .validated2 .given .1)), r .read .ensures .few, search needs)
+    let f = fits (c .before .before .before .before) in
+    rw sub-zero (f .0, f .2, search needs)
 
 stores-requires : tie.Need-stores-requires
 stores-requires c κs = search needs
@@ -54,15 +71,15 @@ same-length c = search needs
 returns-2 : tie.Need-returns-2
 returns-2 c =
     let w = c .before .before .before in
-    let r = w .before .before in
+    let r = w .before .before .before .before .before in
     let d = r .before .before in
     let v = d .before .before in
+    let a = v .before .before .before .args in
     let e = sym (v .validate-payload .ensures) ∙ ap validatedResult (d .validated2 .given .1) in
-    let told = rw (r .read .ensures .front) at (w .write-response .ensures) in
     rw e (record {
       decides = refl;
       tells = c .stores .ensures;
-      results = ap₂ (λ (n : ℕ) (buffer : List ℕ). responded 0 n buffer) (told .0) (told .1);
+      results = response-told (a .state) (a .payload .now) e (r .read .ensures .front) (rw sub-zero at (w .write-response .ensures));
     })
 
 pub respond-payload-spec : {M : Type 1} → statement M
@@ -74,6 +91,9 @@ respond-payload-spec =
     refused-requires
     enum-known-validated-2
     read-requires
+    sub-write-response
+    part-write-response-start
+    part-write-response-end
     write-response-requires
     stores-requires
     returns

@@ -16,7 +16,7 @@ returns : tie.Need-returns
 returns c =
     let k = c .before .before in
     let a = k .before .before .before .before .args in
-    (k .copy .ensures .0, k .copy .ensures .1 ∙ copied (a .out .now) (a .source .now))
+    record { size = k .copy .ensures .0; over = k .copy .ensures .1 ∙ copied (a .out .now) (a .source .now) }
 
 pub put-spec : {M : Type 1} → statement M
 put-spec = tie.close (tie.spec copy-requires same-length returns)

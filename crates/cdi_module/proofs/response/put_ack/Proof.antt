@@ -1,10 +1,11 @@
 -- Two bytes are stored, and the payload is written behind them.
 -- Assumes nothing.
-use mathlib.Core.Path.{ap, _∙_}
+use mathlib.Core.Path.{refl, ap, _∙_}
 use mathlib.Core.List.{[], _∷_}
 use native.Mathlib.Omega.{arith}
 use lib.ListN.{length, length-set}
-use Rattle.logic.proofs.Written.{written-length, written-behind, room-behind}
+use lib.Seq.{sets}
+use Rattle.logic.proofs.Written.{stores, written-length, written-behind, part-room}
 use Rattle.cdi_command.specs.Payload.{ackResponse, noError}
 use borrow.Author.Needs.{needs}
 use Rattle.cdi_module.proofs.response.put_ack.Statement.{statement}
@@ -26,7 +27,7 @@ part-put-end : tie.Need-part-put-end
 part-put-end c = search needs
 
 put-requires : tie.Need-put-requires
-put-requires c κs = omega (arith, room-behind (c .before .before .before .args .out .now) (ackResponse ∷ noError ∷ []))
+put-requires c κs = rw (part-room 2 (sets (c .before .before .before .args .out .now) 0 (ackResponse ∷ noError ∷ []))) (simp length-set (omega arith))
 
 add-result : tie.Need-add-result
 add-result c = search needs
@@ -35,16 +36,16 @@ returns : tie.Need-returns
 returns c =
     let k = c .before .before in
     let a = k .before .before .before .before .args in
-    let p = a .payload .now in (
-      omega (arith, k .put .ensures .0),
-      (omega (arith, k .put .ensures .0), written-behind (a .out .now) (ackResponse ∷ noError ∷ []) p (k .put .last .1 .0) (search needs) (k .put .ensures .1)),
-    )
+    let head = ackResponse ∷ noError ∷ [] in
+    record {
+      size = omega (arith, k .put .ensures .size);
+      over = written-behind (a .out .now) head (a .payload .now) refl (stores (a .out .now) head (omega arith)) (k .put .ensures .over);
+    }
 
 same-length : tie.Need-same-length
 same-length c =
-    let k = c .before .before in
-    let a = k .before .before .before .before .args in
-    ap length (returns c .1 .1) ∙ written-length (a .out .now) (ackResponse ∷ noError ∷ a .payload .now) (omega arith)
+    let a = c .before .before .before .before .before .before .args in
+    ap length (returns c .over) ∙ written-length (a .out .now) (ackResponse ∷ noError ∷ a .payload .now) (omega arith)
 
 pub put-ack-spec : {M : Type 1} → statement M
 put-ack-spec =

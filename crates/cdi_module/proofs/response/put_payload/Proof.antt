@@ -1,64 +1,31 @@
--- Each command has its form of the response, and the function that writes it.
+-- The tests of the code are the definition's, in the same order, and each form of the response has the function that writes it.
 -- Assumes nothing.
-use Prim.Native.Nat.{_≤_}
-use mathlib.Core.Path.{_≡_}
-use mathlib.Core.Bool.{false}
-use mathlib.Core.List.{_∷_}
-use lib.ListN.{length}
-use Rattle.cdi_command.specs.Payload.{payloadMax, responsePayload, ackResponse, noError}
-use Rattle.cdi_value.specs.Value.{shownBytes}
-use Rattle.cdi_store.specs.Store.{isRead}
-use Rattle.cdi_store.proofs.Tags.{is-other}
-use Rattle.cdi_module.proofs.Responses.{echoed, echo-short}
+use borrow.Author.Tests.{eq-eqb, ne-eqb}
+use Rattle.logic.proofs.Written.{part-rest}
 use borrow.Author.Needs.{needs}
 use Rattle.cdi_module.proofs.response.put_payload.Statement.{statement}
 use Rattle.cdi_module.proofs.response.put_payload.Tie as tie
 
-short : (z : tie.Start) → length (z .args .payload .now) ≤ payloadMax
-short z = echo-short (z .args .command) (z .args .payload .now) (z .pre .0)
+abbrev entry : tie.After-arguments → tie.Start
+entry b = b .before .before .before .before .before
 
-echo : (z : tie.Start) → isRead (z .args .command) ≡ false →
-    responsePayload (z .args .command) (shownBytes (z .args .shown)) ≡ ackResponse ∷ noError ∷ z .args .payload .now
-echo z = echoed (z .args .command) (z .args .payload .now) (z .pre .0) (shownBytes (z .args .shown))
+shared-slice-read-code : tie.Need-shared-slice-read-code
+shared-slice-read-code c = search needs
 
-enum-known-command : tie.Need-enum-known-command
-enum-known-command c = search needs
+sub-arguments : tie.Need-sub-arguments
+sub-arguments c = search needs
+
+part-arguments-start : tie.Need-part-arguments-start
+part-arguments-start c = search needs
+
+part-arguments-end : tie.Need-part-arguments-end
+part-arguments-end c = search needs
 
 put-read-requires : tie.Need-put-read-requires
 put-read-requires c κs =
-    let d = c .before .before in
-    let s = d .before .before .before .before in
-    (rw (d .command .given .1) at (s .pre .1), search needs)
-
-enum-known-command-2 : tie.Need-enum-known-command-2
-enum-known-command-2 c = search needs
-
-put-read-row-requires : tie.Need-put-read-row-requires
-put-read-row-requires c κs =
-    let d = c .before .before in
-    let s = d .before .before .before .before in
-    (rw (d .command2 .given .1) at (s .pre .1), search needs)
-
-enum-known-command-3 : tie.Need-enum-known-command-3
-enum-known-command-3 c = search needs
-
-put-read-requires-2 : tie.Need-put-read-requires-2
-put-read-requires-2 c κs =
-    let d = c .before .before in
-    let s = d .before .before .before .before in
-    (rw (d .command3 .given .1) at (s .pre .1), search needs)
-
-enum-known-command-4 : tie.Need-enum-known-command-4
-enum-known-command-4 c = search needs
-
-put-read-row-requires-2 : tie.Need-put-read-row-requires-2
-put-read-row-requires-2 c κs =
-    let d = c .before .before in
-    let s = d .before .before .before .before in
-    (rw (d .command4 .given .1) at (s .pre .1), search needs)
-
-put-ack-requires : tie.Need-put-ack-requires
-put-ack-requires c κs = (short (c .before .before .before .before), search needs)
+    let t = c .before in
+    let s = entry (t .before) in
+    rw (part-rest 1 (s .args .payload .now)) (simp (eq-eqb _ _ (t .if1 .taken)) at (s .pre .1))
 
 same-length : tie.Need-same-length
 same-length c = search needs
@@ -66,7 +33,14 @@ same-length c = search needs
 returns : tie.Need-returns
 returns c =
     let k = c .before .before in
-    rw (k .before .before .before .command .given .1) (k .put-read .ensures)
+    let t = k .before .before in
+    simp (eq-eqb _ _ (t .if1 .taken)) (rw (part-rest 1 (entry (t .before) .args .payload .now)) at (k .put-read .ensures))
+
+put-read-requires-2 : tie.Need-put-read-requires-2
+put-read-requires-2 c κs =
+    let t = c .before in
+    let s = entry (t .before .before) in
+    rw (part-rest 1 (s .args .payload .now)) (simp (ne-eqb _ _ (t .before .if1 .left), eq-eqb _ _ (t .if2 .taken)) at (s .pre .1))
 
 same-length-2 : tie.Need-same-length-2
 same-length-2 c = search needs
@@ -74,7 +48,14 @@ same-length-2 c = search needs
 returns-2 : tie.Need-returns-2
 returns-2 c =
     let k = c .before .before in
-    rw (k .before .before .before .command2 .given .1) (k .put-read-row .ensures)
+    let t = k .before .before in
+    simp (ne-eqb _ _ (t .before .if1 .left), eq-eqb _ _ (t .if2 .taken))
+    (rw (part-rest 1 (entry (t .before .before) .args .payload .now)) at (k .put-read2 .ensures))
+
+put-ack-requires : tie.Need-put-ack-requires
+put-ack-requires c κs =
+    let t = c .before in
+    simp (ne-eqb _ _ (t .before .if1 .left), ne-eqb _ _ (t .if2 .left)) at (entry (t .before .before) .pre .1)
 
 same-length-3 : tie.Need-same-length-3
 same-length-3 c = search needs
@@ -82,46 +63,23 @@ same-length-3 c = search needs
 returns-3 : tie.Need-returns-3
 returns-3 c =
     let k = c .before .before in
-    rw (k .before .before .before .command3 .given .1) (k .put-read2 .ensures)
-
-same-length-4 : tie.Need-same-length-4
-same-length-4 c = search needs
-
-returns-4 : tie.Need-returns-4
-returns-4 c =
-    let k = c .before .before in
-    rw (k .before .before .before .command4 .given .1) (k .put-read-row2 .ensures)
-
-same-length-5 : tie.Need-same-length-5
-same-length-5 c = search needs
-
-returns-5 : tie.Need-returns-5
-returns-5 c =
-    let k = c .before .before in
-    let d = k .before .before in
-    let s = d .before .before .before in
-    rw (echo s (is-other (s .args .command) (d .match .keys5))) (k .put-ack .ensures)
+    let t = k .before .before in
+    simp (ne-eqb _ _ (t .before .if1 .left), ne-eqb _ _ (t .if2 .left)) (k .put-ack .ensures)
 
 pub put-payload-spec : {M : Type 1} → statement M
 put-payload-spec =
     tie.close
     (tie.spec
-    enum-known-command
+    shared-slice-read-code
+    sub-arguments
+    part-arguments-start
+    part-arguments-end
     put-read-requires
-    enum-known-command-2
-    put-read-row-requires
-    enum-known-command-3
-    put-read-requires-2
-    enum-known-command-4
-    put-read-row-requires-2
-    put-ack-requires
     same-length
     returns
+    put-read-requires-2
     same-length-2
     returns-2
+    put-ack-requires
     same-length-3
-    returns-3
-    same-length-4
-    returns-4
-    same-length-5
-    returns-5)
+    returns-3)

@@ -4,10 +4,9 @@ use Prim.Native.Nat.{_+_}
 use mathlib.Core.List.{[], _∷_}
 use native.Mathlib.Omega.{arith}
 use lib.ListN.{length, length-set}
-use Rattle.logic.proofs.Written.{written-before}
+use Rattle.logic.proofs.Written.{written-before, part-room}
 use Rattle.cdi_frame.specs.Layout.{start, sync, lengthBase}
 use Rattle.cdi_command.specs.Payload.{responsePayload}
-use Rattle.cdi_value.specs.Value.{shownBytes}
 use borrow.Author.Needs.{needs}
 use Rattle.cdi_module.proofs.response.write_response.Statement.{statement}
 use Rattle.cdi_module.proofs.response.write_response.Tie as tie
@@ -22,7 +21,9 @@ part-put-payload-end : tie.Need-part-put-payload-end
 part-put-payload-end c = search needs
 
 put-payload-requires : tie.Need-put-payload-requires
-put-payload-requires c κs = search needs
+put-payload-requires c κs =
+    let s = c .before .before .before .before in
+    (s .pre .0, omega (arith, part-room 3 (s .args .response .now)))
 
 slice-write-response : tie.Need-slice-write-response
 slice-write-response c = search needs
@@ -48,12 +49,13 @@ same-length c = search needs
 returns : tie.Need-returns
 returns c =
     let k = c .before .before in
-    let a = k .before .before .before .before .args in
-    let p = responsePayload (a .command) (shownBytes (a .shown)) in
-    let r = k .put-payload .ensures .1 in (
-      omega (arith, r .0),
-      rw (r .0) (written-before (a .response .now) (start ∷ sync ∷ (lengthBase + length p) ∷ []) p (k .put-payload .last .1 .1 .1 .0) (search needs) (r .1)),
-    )
+    let a = k .before .before .before .before .before .args in
+    let p = responsePayload (a .payload .now) (a .value .now) in
+    let w = k .put-payload .ensures in
+    record {
+      size = omega (arith, w .size);
+      over = rw (w .size) (written-before (a .response .now) (start ∷ sync ∷ (lengthBase + length p) ∷ []) p (search needs) (w .over));
+    }
 
 pub write-response-spec : {M : Type 1} → statement M
 write-response-spec =
