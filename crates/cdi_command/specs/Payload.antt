@@ -71,6 +71,10 @@ ackResponse = 0xC0
 abbrev pub noError : ℕ
 noError = 0x00
 
+-- no response is longer: three bytes of the frame, C1, the item and 17 bytes of name
+abbrev pub responseBufferMin : ℕ
+responseBufferMin = 22
+
 -- the payload of the response to an accepted command, by the command's own payload: a read command's has all behind the code again,
 -- which is the item and the index if there is one, and then the value that is read; any other command's has the whole of it again
 abbrev pub responsePayload : (payload value : List ℕ) → List ℕ

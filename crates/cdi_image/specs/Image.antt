@@ -8,7 +8,6 @@ use Rattle.cdi_state.specs.State.{inputIn, slotIn}
 use Rattle.logic.specs.Lists.{below, sameBytes, hasZero, part}
 use Rattle.refusal.specs.Refusal.{Result, accepted, refused, invalid, imageLength, imageMark, imageVersion}
 use Rattle.cdi_item.specs.Items.{nameLength, rowLength, slotCount}
-use Rattle.cdi_state.specs.declared.AnalogInput.{AnalogInput}
 use Rattle.cdi_state.specs.declared.Slot.{Slot}
 use Rattle.cdi_state.specs.declared.Settings.{Settings}
 use Rattle.cdi_state.specs.declared.ModuleState.{ModuleState}

@@ -4,10 +4,10 @@ use mathlib.Core.Bool.{Bool, false, cond, _||_}
 use mathlib.Core.List.{List, [], _∷_, _++_}
 use lib.Dec.{eqb, leb}
 use lib.ListN.{length}
+use Rattle.cdi_command.specs.Payload.{responseBufferMin}
 use Rattle.hex_text.specs.Hex.{hexLine, lineFeed}
 use Rattle.answer_text.specs.Text.{printed}
 use Rattle.cdi_state.specs.declared.ModuleState.{ModuleState}
-use Rattle.cdi_module.specs.Module.{responseMax}
 use Rattle.cdi_log.specs.Replay.{lines, lineText, lineState}
 
 -- ---- whole lines
@@ -33,7 +33,7 @@ withLineFeeds (line ∷ rest) = line ++ lineFeed ∷ withLineFeeds rest
 -- ---- what is answered
 -- the most characters of a line that is printed, with its line feed: three for each byte of the longest response
 abbrev pub printedMax : ℕ
-printedMax = 3 * responseMax
+printedMax = 3 * responseBufferMin
 
 -- the lines, from the first on, that are answered in a buffer with `room` bytes: one more as long as there is room for any line
 unfoldable pub fitting : ModuleState → ℕ → List (List ℕ) → List (List ℕ)

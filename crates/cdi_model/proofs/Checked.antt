@@ -2,7 +2,7 @@
 -- length that the key accepts.
 -- Assumes nothing.
 use Prim.Native.Nat.{ℕ}
-use mathlib.Core.Path.{_≡_, refl, sym, subst, _∙_}
+use mathlib.Core.Path.{_≡_, refl, sym, _∙_}
 use mathlib.Core.Bool.{true, false, and-eq-true-iff}
 use mathlib.Core.List.{List}
 use native.Mathlib.Nat.{min-eq-left}
@@ -23,14 +23,14 @@ use Rattle.cdi_command.specs.declared.Index.{Index}
 use Rattle.cdi_command.specs.declared.Command.{Command}
 use Rattle.cdi_command.specs.declared.Command.the-variants.{Read, ReadIndexed, ReadNv, ReadNvIndexed, Write, WriteIndexed, Program, ProgramIndexed, SetDefault, EraseAll}
 use Rattle.cdi_command.specs.Command.{validatePayload}
-use Rattle.cdi_command.specs.Payload.{valueIn, fits, WellFormed}
+use Rattle.cdi_command.specs.Payload.{valueIn, fits, WellFormed, responseBufferMin}
 use Rattle.cdi_command.proofs.Accepted.{accepted-well-formed}
 use Rattle.cdi_model.specs.Cells.{Key, setting, input, slot, address, stored, hasWorking, readCopy, isKey, isCell}
 use Rattle.cdi_model.specs.Values.{accepted}
 use Rattle.cdi_model.specs.Step.{Step, powerUp, command}
 use Rattle.cdi_model.specs.Action.{Source, held, one, status, Action, read, readNv, readStatus, write, program, setDefault, eraseAll, keyOf, sourceOf, rowOf, readFrom, readNvFrom, actionOf}
 use Rattle.cdi_model.specs.Table.{Decision, refuse, execute, executePowerUp}
-use Rattle.cdi_model.specs.Model.{Cells, isValid, decide, decideBlock, decideFrame, decidePayload, decideCommand, responseBufferMin}
+use Rattle.cdi_model.specs.Model.{Cells, isValid, decide, decideBlock, decideFrame, decidePayload, decideCommand}
 pub use Rattle.cdi_model.proofs.Keys.{width}
 use Rattle.cdi_model.proofs.Keys.{isSource, row-named, row-width, source-there, key-there, key-width, plain-writable, row-writable}
 use Rattle.cdi_model.proofs.Values.{plain-agrees, row-agrees}
@@ -143,7 +143,3 @@ step-checked s powerUp = choice CheckedDecision (isValid s) (λ _. tt) (λ _. tt
 step-checked s (command block response) =
     choice CheckedDecision (ltb (length response) responseBufferMin) (λ _. tt)
     (λ _. choice CheckedDecision (isValid s) (λ _. frame-checked block (readFrame wakeLimit block)) (λ _. tt))
-
--- ... and so that which is decided on
-pub decided-checked : (s : Cells) (x : Step) (payload : List ℕ) (a : Action) → decide s x ≡ execute payload a → Checked a
-decided-checked s x payload a is = subst CheckedDecision is (step-checked s x)

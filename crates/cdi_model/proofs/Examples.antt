@@ -6,6 +6,7 @@ use mathlib.Core.Bool.{Bool, true, cond}
 use mathlib.Core.List.{List, [], _∷_, _++_, map, map-congr-left}
 use lib.Dec.{ltb}
 use lib.ListN.{length, replicate}
+use Rattle.cdi_command.specs.Payload.{responseBufferMin}
 use Rattle.logic.specs.Lists.{allBelow, hasZero}
 use Rattle.logic.specs.Written.{written}
 use Rattle.refusal.specs.Refusal.{invalid, responseBufferShort}
@@ -20,7 +21,7 @@ use Rattle.cdi_model.specs.Factory.{factoryCells}
 use Rattle.cdi_model.specs.Step.{Step, powerUp, command, StepResult, poweredUp, responded}
 use Rattle.cdi_model.specs.Action.{actionOf}
 use Rattle.cdi_model.specs.Table.{Decision, refuse, executePowerUp, stores}
-use Rattle.cdi_model.specs.Model.{Cells, isValid, responseBufferMin, decide, decidePayload, decideBlock, gives, valueRead, responsePayload, resultOf, model}
+use Rattle.cdi_model.specs.Model.{Cells, isValid, decide, decidePayload, decideBlock, gives, valueRead, responsePayload, resultOf, model}
 use Rattle.cdi_model.proofs.Lawful.{validity-kept}
 
 -- ---- cells

@@ -6,6 +6,7 @@ use mathlib.Core.Bool.{true, false, cond, _&&_, _||_, and-false, and-eq-true-iff
 use mathlib.Core.List.{List}
 use lib.Dec.{ltb}
 use lib.ListN.{length}
+use Rattle.cdi_command.specs.Payload.{responseBufferMin}
 use Rattle.logic.proofs.Choice.{choice, by-cases, either}
 use Rattle.sequence.specs.Model.{Lawful, next, accepts, touches, results}
 use Rattle.sequence.proofs.Laws.{results-by-real}
@@ -13,7 +14,7 @@ use Rattle.cdi_model.specs.Cells.{nv, working, lineMask, latchMask, txPo
 use Rattle.cdi_model.specs.Step.{Step, powerUp, command}
 use Rattle.cdi_model.specs.Action.{Action, read, readNv, readStatus, write, program, setDefault, eraseAll}
 use Rattle.cdi_model.specs.Table.{Decision, refuse, execute, executePowerUp, isAccepted, inCopy, actionReads, actionStores, powerUpStores, reads, stores}
-use Rattle.cdi_model.specs.Model.{Cells, isValid, responseBufferMin, decide, gives, shown, actionValue, valueRead, resultOf, model}
+use Rattle.cdi_model.specs.Model.{Cells, isValid, decide, gives, shown, actionValue, valueRead, resultOf, model}
 use Rattle.cdi_model.proofs.Cells.{same-refl}
 use Rattle.cdi_model.proofs.Checked.{Checked, CheckedDecision, step-checked}
 use Rattle.cdi_model.proofs.Validity.{valid-takes, takes-valid}

@@ -7,6 +7,7 @@ use mathlib.Core.List.{List}
 use borrow.Author.Tests.{eqb-true}
 use lib.Dec.{eqb, ltb}
 use lib.ListN.{length}
+use Rattle.cdi_command.specs.Payload.{responseBufferMin}
 use Rattle.logic.proofs.Choice.{choice, by-cases}
 use Rattle.refusal.specs.Refusal.{Result, accepted, refused, none}
 use Rattle.refusal.proofs.Results.{among}
@@ -18,7 +19,7 @@ use Rattle.cdi_command.specs.Command.{validatePayload}
 use Rattle.cdi_command.proofs.Refusals.{payloadRefusals, payload-refusal}
 use Rattle.cdi_model.specs.Step.{Step, powerUp, command}
 use Rattle.cdi_model.specs.Table.{Decision, isAccepted}
-use Rattle.cdi_model.specs.Model.{Cells, isValid, responseBufferMin, refusalBy, decideCommand, decidePayload, decideFrame, decideBlock, decide}
+use Rattle.cdi_model.specs.Model.{Cells, isValid, refusalBy, decideCommand, decidePayload, decideFrame, decideBlock, decide}
 
 abbrev Told : Decision → Type 0
 Told d = isAccepted d ≡ eqb (refusalBy d) none

@@ -14,7 +14,7 @@ use Rattle.cdi_frame.specs.Frame.{wakeLimit, readFrame, payloadIn}
 use Rattle.cdi_frame.specs.Layout.{responseFrame}
 use Rattle.cdi_command.specs.declared.Command.{Command}
 use Rattle.cdi_command.specs.Command.{validatePayload}
-use Rattle.cdi_command.specs.Payload.{readResponse, readNvResponse, ackResponse, noError}
+use Rattle.cdi_command.specs.Payload.{readResponse, readNvResponse, ackResponse, noError, responseBufferMin}
 use Rattle.sequence.specs.Model.{Model}
 use Rattle.cdi_model.specs.Cells.{Copy, nv, working, lineMask, latchMask, txPower, controlSource, messageSelect, interruptMask, Key, setting, input, slot, Single, name, firmware, serial, lines, rssi, ladj, events, flags, hardwarePower, hardwareLineMask, hardwareLatchMask, Cell, stored, single}
 use Rattle.cdi_model.specs.Values.{byteOf, accepted, acceptedFlags, defaultValue, emptySlot, noRssi, upToZero, statusBytes}
@@ -42,7 +42,7 @@ isValid s =
     acceptedFlags (byteOf (s (single flags)))
 
 -- ---- decisions, in the order of the refusals
--- 7 to 12
+-- those of the payload
 abbrev pub decideCommand : List ℕ → Result Command → Decision
 decideCommand payload (acceptedAs c) = execute payload (actionOf c)
 decideCommand payload (refused n) = refuse n
@@ -58,11 +58,7 @@ decideFrame block (refused n) = refuse n
 unfoldable pub decideBlock : List ℕ → Decision
 decideBlock block = decideFrame block (readFrame wakeLimit block)
 
--- a response buffer has room for the longest response
-abbrev pub responseBufferMin : ℕ
-responseBufferMin = 22
-
--- 1, 2, then those of the block; a power-up is refused with 2 alone
+-- 1 where the response buffer has no room for the longest response, 2, then those of the block; a power-up is refused with 2 alone
 unfoldable pub decide : Cells → Step → Decision
 decide s powerUp = cond (isValid s) executePowerUp (refuse invalid)
 decide s (command block response) =

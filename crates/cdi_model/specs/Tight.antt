@@ -4,7 +4,7 @@
 -- stored in has to change, and no other cell may, for every command on every item, at every index, and for a power-up.
 use Prim.Native.Nat.{ℕ, suc, _+_}
 use mathlib.Core.List.{List, [], _∷_, _++_, map, flatMap}
-use mathlib.Core.Bool.{Bool, true, false, cond, not, _&&_, _||_, Bool·beq}
+use mathlib.Core.Bool.{Bool, true, cond, not, _&&_, _||_, Bool·beq}
 use lib.ListN.{take, replicate}
 use Rattle.logic.specs.Lists.{all, any, below, sameBytes}
 use Rattle.refusal.specs.Refusal.{valueNotAccepted}

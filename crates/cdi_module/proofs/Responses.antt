@@ -11,16 +11,15 @@ use Rattle.cdi_frame.specs.Layout.{responseFrame}
 use Rattle.cdi_command.specs.declared.Command.{Command}
 use Rattle.cdi_command.specs.declared.Command.the-variants.{Read, ReadIndexed, ReadNv, ReadNvIndexed, Write, WriteIndexed, Program, ProgramIndexed, SetDefault, EraseAll}
 use Rattle.cdi_command.specs.Command.{validatePayload}
-use Rattle.cdi_command.specs.Payload.{commandPayload, responsePayload}
+use Rattle.cdi_command.specs.Payload.{commandPayload, responsePayload, responseBufferMin}
 use Rattle.cdi_command.proofs.Accepted.{payload-bounds, accepted-payload}
 use Rattle.cdi_value.specs.declared.Shown.{Shown}
 use Rattle.cdi_value.specs.Value.{valueMax, shownBytes}
 use Rattle.cdi_module.specs.Value.{valueRoom}
-use Rattle.cdi_module.specs.Module.{responseMax}
 
 -- there is a code, n bytes of value are no more than the longest has, and the response fits
 abbrev pub Fits : (payload v : List ℕ) → ℕ → Type 0
-Fits payload v n = (1 ≤ length payload) × (n ≤ valueMax) × (length (responseFrame (responsePayload payload v)) ≤ responseMax)
+Fits payload v n = (1 ≤ length payload) × (n ≤ valueMax) × (length (responseFrame (responsePayload payload v)) ≤ responseBufferMin)
 
 fits : (c : Command) (v : List ℕ) (n : ℕ) → length v ≤ n → n ≤ valueRoom c → Fits (commandPayload c) v n
 fits (Read x) v n l h = omega arith

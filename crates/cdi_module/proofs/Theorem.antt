@@ -4,6 +4,7 @@ use mathlib.Core.Path.{_≡_, sym, ap, _∙_, fun-ext}
 use mathlib.Core.Bool.{false, cond}
 use lib.Dec.{ltb}
 use lib.ListN.{length}
+use Rattle.cdi_command.specs.Payload.{responseBufferMin}
 use Rattle.logic.proofs.Choice.{by-cases}
 use Rattle.refusal.specs.Refusal.{invalid, responseBufferShort}
 use Rattle.sequence.proofs.Theorem.{sequence-claims}
@@ -13,7 +14,7 @@ use Rattle.cdi_state.specs.Valid.{isValid}
 use Rattle.cdi_model.specs.Step.{Step, powerUp, command, StepResult, poweredUp, responded}
 use Rattle.cdi_model.specs.Model.{model, isValid as isValidCells}
 use Rattle.cdi_model.proofs.Lawful.{lawful, validity-kept as cells-validity-kept}
-use Rattle.cdi_module.specs.Module.{responseMax, decide, step, resultOf}
+use Rattle.cdi_module.specs.Module.{decide, step, resultOf}
 use Rattle.cdi_module.specs.Machine.{cells, machine}
 use Rattle.cdi_module.specs.Theorem.{SequenceTheorem}
 use Rattle.cdi_module.proofs.Validity.{validity-agrees}
@@ -33,10 +34,10 @@ validity-kept s x h =
 -- on an invalid state every step is refused: a power-up with 2, a block with 1 or 2
 abbrev refusedResult : Step → StepResult
 refusedResult powerUp = poweredUp invalid
-refusedResult (command block response) = responded (cond (ltb (length response) responseMax) responseBufferShort invalid) 0 response
+refusedResult (command block response) = responded (cond (ltb (length response) responseBufferMin) responseBufferShort invalid) 0 response
 
 pub invalid-refused : (s : ModuleState) (x : Step) → isValid s ≡ false → (step s x ≡ s) × (resultOf s x ≡ refusedResult x)
 unfolding step resultOf decide
 invalid-refused s powerUp e = (rw e, rw e)
 invalid-refused s (command block response) e =
-    by-cases (ltb (length response) responseMax) (λ t. (rw t, rw t)) (λ t. (rw (t, e), rw (t, e)))
+    by-cases (ltb (length response) responseBufferMin) (λ t. (rw t, rw t)) (λ t. (rw (t, e), rw (t, e)))

@@ -13,17 +13,13 @@ use Rattle.cdi_frame.specs.Layout.{responseFrame}
 use Rattle.cdi_command.specs.declared.Command.{Command}
 use Rattle.cdi_command.specs.declared.Validated.the-variants.{Refused}
 use Rattle.cdi_command.specs.Command.{validatedResult, validatePayload}
-use Rattle.cdi_command.specs.Payload.{commandPayload, responsePayload}
+use Rattle.cdi_command.specs.Payload.{commandPayload, responsePayload, responseBufferMin}
 use Rattle.cdi_state.specs.declared.ModuleState.{ModuleState}
 use Rattle.cdi_state.specs.Valid.{isValid}
 use Rattle.cdi_model.specs.Step.{Step, powerUp, command, StepResult, poweredUp, responded}
 use Rattle.cdi_module.specs.Value.{valueRead}
 use Rattle.cdi_store.specs.Store.{stores, stateAfter, stateAtPowerUp}
 use Rattle.cdi_module.specs.declared.Decided.{Decided}
-
--- the longest response: three bytes of the frame, C1, the item and 17 bytes of name
-abbrev pub responseMax : ℕ
-responseMax = 22
 
 pub data Decision : Type 0 where
   refuse : ℕ → Decision
@@ -42,7 +38,7 @@ commandIn block = andThen (readFrame wakeLimit block) (λ span. validatePayload 
 -- refusals 1 and 2 stand before those of the block
 abbrev pub decideIf : (valid : Bool) (block response : List ℕ) → Decision
 decideIf valid block response =
-    cond (ltb (length response) responseMax) (refuse responseBufferShort)
+    cond (ltb (length response) responseBufferMin) (refuse responseBufferShort)
     (cond valid (decided (commandIn block)) (refuse invalid))
 
 -- of a power-up there is 2 alone

@@ -7,10 +7,11 @@ ghost use mathlib.Core.Path.{_≡_};
 ghost use mathlib.Core.Bool.{_||_};
 ghost use Prim.Native.Nat.{_≤_};
 ghost use lib.ListN.{length};
+ghost use Rattle.cdi_command.specs.Payload.{responseBufferMin};
 ghost use Rattle.cdi_command.specs.Command.{validatePayload};
 ghost use Rattle.cdi_state.specs.Valid.{isValid};
 ghost use Rattle.cdi_model.specs.Step.{command, powerUp, poweredUp, responded};
-ghost use Rattle.cdi_module.specs.Module.{responseMax, decided, decideIf, decide, refusedAs, Responds, step, resultOf};
+ghost use Rattle.cdi_module.specs.Module.{decided, decideIf, decide, refusedAs, Responds, step, resultOf};
 use cdi_command::Validated;
 use cdi_frame::Frame;
 use cdi_state::ModuleState;
@@ -20,7 +21,7 @@ use refusal::Outcome;
 use refusal::RESPONSE_BUFFER_SHORT;
 
 // The longest response is that to a Read of the name: three bytes of the frame, C1, the item and 17 bytes.
-pub const RESPONSE_MAX: usize = 22;
+pub const RESPONSE_BUFFER_MIN: usize = 22;
 
 // What came of a block: the state after it, and the refusal or the length of the response.
 #[repr(C)]
@@ -56,7 +57,7 @@ fn refused(number: u8) -> Decided
 
 // Responds to a payload, by the state as the command finds it.
 fn respond_payload(state: ModuleState, payload: &[u8], response: &mut [u8]) -> Decided
-    requires { ⌜ responseMax ≤ length (now response) ⌝ }
+    requires { ⌜ responseBufferMin ≤ length (now response) ⌝ }
     ensures { λ r. ⌜ Responds state (decided (validatePayload (now (payload .entry)))) (now (response .entry)) (now (response .exit)) r ⌝ }
 {
     let validated = cdi_command::validate_payload(payload);
@@ -83,7 +84,7 @@ fn respond_payload(state: ModuleState, payload: &[u8], response: &mut [u8]) -> D
 fn respond_if(valid: bool, state: ModuleState, block: &[u8], response: &mut [u8]) -> Decided
     ensures { λ r. ⌜ Responds state (decideIf valid (now (block .entry)) (now (response .entry))) (now (response .entry)) (now (response .exit)) r ⌝ }
 {
-    if response.len() < RESPONSE_MAX {
+    if response.len() < RESPONSE_BUFFER_MIN {
         return refused(RESPONSE_BUFFER_SHORT);
     }
     if !valid {
@@ -153,7 +154,7 @@ pub fn power_up(state: ModuleState) -> PowerUp
             refusal: INVALID,
         };
     }
-    let after = cdi_store::restart(state);
+    let after = cdi_store::powered_up(state);
     PowerUp {
         state: after,
         refusal: NONE,

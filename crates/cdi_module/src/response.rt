@@ -4,8 +4,8 @@ ghost use mathlib.Core.List.{_∷_, _++_};
 ghost use Prim.Native.Nat.{_≤_};
 ghost use lib.ListN.{length};
 ghost use Rattle.cdi_frame.specs.Layout.{responseFrame};
-ghost use Rattle.cdi_command.specs.Payload.{responsePayload, ackResponse, noError};
-ghost use Rattle.cdi_module.specs.Module.{responseMax, Writes};
+ghost use Rattle.cdi_command.specs.Payload.{responsePayload, ackResponse, noError, responseBufferMin};
+ghost use Rattle.cdi_module.specs.Module.{Writes};
 use cdi_command::READ;
 use cdi_command::READ_NV;
 use cdi_frame::LENGTH_BASE;
@@ -73,7 +73,7 @@ const PAYLOAD_START: usize = 3;
 
 // Writes the response to an accepted command over the front of `response`, and returns its length.
 pub(crate) fn write_response(payload: &[u8], value: &[u8], response: &mut [u8]) -> usize
-    requires { ⌜ (1 ≤ length (now payload)) × (length (responseFrame (responsePayload (now payload) (now value))) ≤ responseMax) × (responseMax ≤ length (now response)) ⌝ }
+    requires { ⌜ (1 ≤ length (now payload)) × (length (responseFrame (responsePayload (now payload) (now value))) ≤ responseBufferMin) × (responseBufferMin ≤ length (now response)) ⌝ }
     ensures { λ r. ⌜ Writes (responseFrame (responsePayload (now (payload .entry)) (now (value .entry)))) (now (response .entry)) (now (response .exit)) r ⌝ }
 {
     let length = put_payload(payload, value, &mut response[PAYLOAD_START..]);

@@ -7,11 +7,11 @@ use native.Mathlib.Omega.{arith}
 use borrow.Author.Tests.{le-leb}
 use lib.ListN.{length, take}
 use lib.Seq.{length-take-le}
+use Rattle.cdi_command.specs.Payload.{responseBufferMin}
 use Rattle.logic.specs.Written.{lengthIn, writtenIn}
 use Rattle.answer_text.specs.Text.{hexText, printed}
 use Rattle.answer_text.proofs.Text.{hexText-length}
 use Rattle.cdi_model.specs.Step.{StepResult}
-use Rattle.cdi_module.specs.Module.{responseMax}
 use Rattle.cdi_log.specs.Replay.{resultText}
 use Rattle.cdi_log.specs.Answered.{printedMax}
 use Rattle.cdi_replay.specs.Progress.{Prints}
@@ -25,7 +25,7 @@ prints text before after count short room counted placed =
     record { counted = all; placed = placed ∙ simp fits; few = omega arith }
 
 -- the longest response fills the room
-pub response-short : (response : List ℕ) (n : ℕ) → 0 < n → n ≤ length response → n ≤ responseMax
+pub response-short : (response : List ℕ) (n : ℕ) → 0 < n → n ≤ length response → n ≤ responseBufferMin
     → length (printed (hexText (take n response))) ≤ printedMax
 response-short response n some within few =
     let taken = length-take-le n response within in

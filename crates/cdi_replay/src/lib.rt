@@ -4,18 +4,18 @@ ghost use mathlib.Core.Path.{_≡_};
 ghost use mathlib.Core.Bool.{true, false, cond};
 ghost use Prim.Native.Nat.{_≤_};
 ghost use lib.ListN.{length};
+ghost use Rattle.cdi_command.specs.Payload.{responseBufferMin};
 ghost use Rattle.logic.specs.Written.{written};
 ghost use Rattle.cdi_command.specs.Command.{validatedResult};
 ghost use Rattle.cdi_state.specs.Valid.{isValid};
 ghost use Rattle.cdi_store.specs.Store.{stateFor};
 ghost use Rattle.hex_text.specs.Hex.{Line};
 ghost use Rattle.answer_text.specs.Text.{notHexText};
-ghost use Rattle.cdi_module.specs.Module.{responseMax};
 ghost use Rattle.cdi_log.specs.Replay.{outcomeText, linesText};
 ghost use Rattle.cdi_log.specs.Answered.{printedMax, answered};
 ghost use Rattle.cdi_replay.specs.Progress.{lineRead, ReadWithin, Prints, Answers, progress};
 use cdi_command::Validated;
-use cdi_module::RESPONSE_MAX;
+use cdi_module::RESPONSE_BUFFER_MIN;
 use cdi_state::ModuleState;
 use hex_text::HexLine;
 use hex_text::LINE_MAX;
@@ -27,7 +27,7 @@ const BLOCK_MAX: usize = (LINE_MAX + 1) / 3;
 
 // The longest line that is printed is that of the longest response, whose last byte has a line feed for the space. No line is
 // answered in less room.
-pub const PRINTED_MAX: usize = 3 * RESPONSE_MAX;
+pub const PRINTED_MAX: usize = 3 * RESPONSE_BUFFER_MIN;
 
 // What one line gives: the command that it stores by, where it stores anything, and how many bytes of the output it takes.
 struct LineAnswer {
@@ -47,7 +47,7 @@ pub struct Progress {
 
 // Writes what came of a block. A response is never empty, so a length of 0 is a refusal.
 fn write_outcome(outcome: Outcome, response: &[u8], out: &mut [u8]) -> usize
-    requires { ⌜ (outcome .length ≤ length (now response)) × (length (now response) ≡ responseMax) × (printedMax ≤ length (now out)) ⌝ }
+    requires { ⌜ (outcome .length ≤ length (now response)) × (length (now response) ≡ responseBufferMin) × (printedMax ≤ length (now out)) ⌝ }
     ensures { λ r. ⌜ Prints (outcomeText (outcome .refusal) (outcome .length) (now (response .entry))) (now (out .entry)) (now (out .exit)) r ⌝ }
 {
     let length = outcome.length;
@@ -62,7 +62,7 @@ fn answer_block(known: bool, state: ModuleState, block: &[u8], out: &mut [u8]) -
     requires { ⌜ (known ≡ true → isValid state ≡ true) × (printedMax ≤ length (now out)) ⌝ }
     ensures { λ r. ⌜ Answers state (Line.block (now (block .entry))) (now (out .entry)) (now (out .exit)) r ⌝ }
 {
-    let mut response = [0u8; RESPONSE_MAX];
+    let mut response = [0u8; RESPONSE_BUFFER_MIN];
     let decided = cdi_module::respond_known(known, state, block, &mut response);
     let outcome = decided.outcome;
     let printed = write_outcome(outcome, &response, out);

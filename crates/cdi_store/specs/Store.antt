@@ -1,6 +1,6 @@
 -- Document 01, "Items": the state after an accepted command, and after a power-up.
 use Prim.Native.Nat.{ℕ, zero, suc}
-use mathlib.Core.List.{List, [], _∷_}
+use mathlib.Core.List.{List}
 use mathlib.Core.Bool.{Bool, false, cond, not, _||_}
 use lib.Dec.{eqb}
 use lib.ListN.{getD, take, set, replicate}

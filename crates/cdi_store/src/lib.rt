@@ -158,7 +158,7 @@ pub fn stores(validated: Validated) -> bool
 }
 
 // The state after a power-up.
-pub fn restart(state: ModuleState) -> ModuleState
+pub fn powered_up(state: ModuleState) -> ModuleState
     ensures { λ r. ⌜ r ≡ stateAtPowerUp state ⌝ }
 {
     let mut q = state;

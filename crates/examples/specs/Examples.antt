@@ -5,6 +5,7 @@ use mathlib.Core.Path.{_≡_}
 use mathlib.Core.List.{List, [], _∷_, map}
 use lib.IntN.{ℤ, pos}
 use lib.ListN.{length, replicate}
+use Rattle.cdi_command.specs.Payload.{responseBufferMin}
 use Rattle.logic.specs.Written.{written}
 use Rattle.refusal.specs.Refusal.{none, endsEarly, wrongLength, notPermitted, wrongIndex, valueNotAccepted}
 use Rattle.sequence.specs.Machine.{run}
@@ -31,7 +32,7 @@ pub data Example : Type 0 where
 
 -- a response buffer, filled so that what is written and what is left can be told
 abbrev pub buffer : List ℕ
-buffer = replicate 22 0xAA
+buffer = replicate responseBufferMin 0xAA
 
 abbrev pub asResult : Expected → StepResult
 asResult (response bytes) = responded none (length bytes) (written buffer bytes)

@@ -46,8 +46,8 @@ returns-3 c =
 with-image-requires : tie.Need-with-image-requires
 with-image-requires c κs = search needs
 
-restart-requires : tie.Need-restart-requires
-restart-requires c κs = search needs
+powered-up-requires : tie.Need-powered-up-requires
+powered-up-requires c κs = search needs
 
 is-valid-requires : tie.Need-is-valid-requires
 is-valid-requires c κs = search needs
@@ -63,17 +63,17 @@ contents-left c =
     rw (is-long (marked .before .before), is-marked marked, sym (c .before .has-version .ensures) ∙ not-false _ (c .if3 .left)) refl
 
 -- the state that is made, and whether it is valid
-made : (c : tie.After-restart) →
+made : (c : tie.After-powered-up) →
     let a = c .before .before .before .before .before .before .before .before .args in
-    c .restart .result ≡ stateAtPowerUp (withImage (a .state) (a .image .now))
-made c = c .restart .ensures ∙ ap stateAtPowerUp (c .before .with-image .ensures)
+    c .powered-up .result ≡ stateAtPowerUp (withImage (a .state) (a .image .now))
+made c = c .powered-up .ensures ∙ ap stateAtPowerUp (c .before .with-image .ensures)
 
 asked : (c : tie.After-is-valid) →
     let a = c .before .before .before .before .before .before .before .before .before .args in
     c .is-valid .result ≡ validContents (a .image .now)
 asked c =
     let a = c .before .before .before .before .before .before .before .before .before .args in
-    let of-made : c .is-valid .result ≡ isValid (c .before .restart .result) = c .is-valid .ensures in
+    let of-made : c .is-valid .result ≡ isValid (c .before .powered-up .result) = c .is-valid .ensures in
     of-made ∙ ap isValid (made (c .before)) ∙ contents-alone (a .state) (a .image .now)
 
 returns-4 : tie.Need-returns-4
@@ -95,7 +95,7 @@ load-spec =
     has-version-requires
     returns-3
     with-image-requires
-    restart-requires
+    powered-up-requires
     is-valid-requires
     returns-4
     returns-5)

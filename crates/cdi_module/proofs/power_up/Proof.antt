@@ -16,14 +16,14 @@ returns c =
     let e = sym (c .before .is-valid .ensures) ∙ not-true _ (c .if1 .taken) in
     (rw e, rw e)
 
-restart-requires : tie.Need-restart-requires
-restart-requires c κs = search needs
+powered-up-requires : tie.Need-powered-up-requires
+powered-up-requires c κs = search needs
 
 returns-2 : tie.Need-returns-2
 unfolding step resultOf decide
 returns-2 c =
     let e = sym (c .before .before .is-valid .ensures) ∙ not-false _ (c .before .if1 .left) in
-    (rw e (c .restart .ensures), rw e)
+    (rw e (c .powered-up .ensures), rw e)
 
 pub power-up-spec : {M : Type 1} → statement M
-power-up-spec = tie.close (tie.spec is-valid-requires returns restart-requires returns-2)
+power-up-spec = tie.close (tie.spec is-valid-requires returns powered-up-requires returns-2)

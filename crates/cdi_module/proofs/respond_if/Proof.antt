@@ -5,9 +5,10 @@ use native.Mathlib.Omega.{arith}
 use native.Mathlib.Nat.{add-sub-cancel-left}
 use lib.ListN.{length}
 use borrow.Author.Tests.{lt-ltb, le-ltb, not-true, not-false}
+use Rattle.cdi_command.specs.Payload.{responseBufferMin}
 use Rattle.cdi_frame.specs.Frame.{wakeLimit, frameResult}
 use Rattle.cdi_frame.proofs.Accepted.{payload-within}
-use Rattle.cdi_module.specs.Module.{responseMax, commandIn}
+use Rattle.cdi_module.specs.Module.{commandIn}
 use Rattle.cdi_module.proofs.Told.{refusal-told}
 use borrow.Author.Needs.{needs}
 use Rattle.cdi_module.proofs.respond_if.Statement.{statement}
@@ -19,7 +20,7 @@ refused-requires c κs = search needs
 returns : tie.Need-returns
 returns c =
     let s = c .before .before .before .before .args in
-    rw (lt-ltb (length (s .response .now)) responseMax (c .before .if1 .taken)) (refusal-told (s .state) _ (s .response .now) _ (c .refused .ensures))
+    rw (lt-ltb (length (s .response .now)) responseBufferMin (c .before .if1 .taken)) (refusal-told (s .state) _ (s .response .now) _ (c .refused .ensures))
 
 refused-requires-2 : tie.Need-refused-requires-2
 refused-requires-2 c κs = search needs
@@ -28,7 +29,7 @@ returns-2 : tie.Need-returns-2
 returns-2 c =
     let b = c .before .before in
     let s = b .before .before .before .args in
-    rw (le-ltb (length (s .response .now)) responseMax (b .if1 .left), not-true (s .valid) (c .before .if2 .taken))
+    rw (le-ltb (length (s .response .now)) responseBufferMin (b .if1 .left), not-true (s .valid) (c .before .if2 .taken))
     (refusal-told (s .state) _ (s .response .now) _ (c .refused2 .ensures))
 
 read-frame-requires : tie.Need-read-frame-requires
@@ -74,7 +75,7 @@ returns-3 c =
     let b = f .before .before in
     let s = b .before .before .before .args in
     rw (
-      le-ltb (length (s .response .now)) responseMax (b .if1 .left),
+      le-ltb (length (s .response .now)) responseBufferMin (b .if1 .left),
       not-false (s .valid) (f .before .if2 .left),
       sym (f .read-frame .ensures) ∙ ap frameResult (d .frame .given .1),
     )
@@ -92,7 +93,7 @@ returns-4 c =
     let b = f .before .before in
     let s = b .before .before .before .args in
     rw (
-      le-ltb (length (s .response .now)) responseMax (b .if1 .left),
+      le-ltb (length (s .response .now)) responseBufferMin (b .if1 .left),
       not-false (s .valid) (f .before .if2 .left),
       sym (f .read-frame .ensures) ∙ ap frameResult (d .frame2 .given .1),
     )

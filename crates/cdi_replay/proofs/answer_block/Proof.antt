@@ -5,9 +5,9 @@ use Prim.Native.Nat.{ℕ}
 use mathlib.Core.Path.{_≡_}
 use mathlib.Core.List.{List}
 use lib.ListN.{length, replicate}
+use Rattle.cdi_command.specs.Payload.{responseBufferMin}
 use Rattle.cdi_module.proofs.Within.{result-within}
 use Rattle.cdi_module.proofs.Told.{told-step, told-result}
-use Rattle.cdi_module.specs.Module.{responseMax}
 use Rattle.cdi_replay.proofs.Printed.{same-result}
 use borrow.Author.Needs.{needs}
 use Rattle.cdi_replay.proofs.answer_block.Statement.{statement}
@@ -27,8 +27,8 @@ write-outcome-requires c κs =
     let k = c .before .before .before .before in
     let call = k .respond-known in
     let s = k .before .before .before .before in
-    let buffer : List ℕ = replicate responseMax 0 in
-    let kept : length (call .last .1 .1 .1 .0) ≡ responseMax = search needs in
+    let buffer : List ℕ = replicate responseBufferMin 0 in
+    let kept : length (call .last .1 .1 .1 .0) ≡ responseBufferMin = search needs in
     let told = told-result (s .args .state) (s .args .block .now) buffer _ (s .args .known) _ (s .pre .0) (call .ensures) in
     (result-within (s .args .state) (s .args .block .now) buffer _ _ _ told, kept, s .pre .1)
 
@@ -41,7 +41,7 @@ returns c =
     let k = w .before .before .before .before .before in
     let call = k .respond-known in
     let s = k .before .before .before .before in
-    let buffer : List ℕ = replicate responseMax 0 in
+    let buffer : List ℕ = replicate responseBufferMin 0 in
     record {
       stored = told-step (s .args .state) (s .args .block .now) buffer _ (s .args .known) _ (s .pre .0) (call .ensures);
       prints = same-result _ _ _ _ _ (told-result (s .args .state) (s .args .block .now) buffer _ (s .args .known) _ (s .pre .0) (call .ensures)) (w .write-outcome .ensures);
