@@ -4,10 +4,10 @@ use mathlib.Core.List.{List, [], _∷_, _++_, map, flatMap}
 use mathlib.Core.Bool.{Bool, cond, not, _&&_}
 use lib.Dec.{eqb}
 use lib.ListN.{length, getD, take, drop}
-use Rattle.cdi_state.specs.State.{inputIn, slotIn}
 use Rattle.logic.specs.Lists.{below, sameBytes, hasZero, part}
 use Rattle.refusal.specs.Refusal.{Result, accepted, refused, invalid, imageLength, imageMark, imageVersion}
 use Rattle.cdi_item.specs.Items.{nameLength, rowLength, slotCount}
+use Rattle.cdi_state.specs.State.{inputIn, slotIn}
 use Rattle.cdi_state.specs.declared.Slot.{Slot}
 use Rattle.cdi_state.specs.declared.Settings.{Settings}
 use Rattle.cdi_state.specs.declared.ModuleState.{ModuleState}

@@ -2,9 +2,9 @@
 ghost use mathlib.Core.Path.{_≡_};
 ghost use Prim.Native.Nat.{_-_, _*_};
 ghost use lib.ListN.{length};
-ghost use Rattle.cdi_state.specs.State.{slotIn, inputIn};
 ghost use Rattle.logic.specs.Lists.{sameBytes, part};
 ghost use Rattle.cdi_item.specs.Items.{nameLength, rowLength, slotCount};
+ghost use Rattle.cdi_state.specs.State.{slotIn, inputIn};
 ghost use Rattle.cdi_image.specs.Image.{mark, version, imageSize, versionAt, nameAt, slotsIn, imageSettings, withImage};
 use cdi_image::ADDRESS_AT;
 use cdi_image::FIRMWARE_AT;

@@ -5,16 +5,16 @@ use mathlib.Core.Path.{_≡_, refl, sym, _∙_}
 use mathlib.Core.List.{List, [], _∷_, _++_, map}
 use Rattle.logic.specs.Lists.{hasZero}
 use Rattle.logic.specs.Written.{written}
+use Rattle.hex_text.specs.Hex.{space, lineFeed, pairs, hexLine}
+use Rattle.cdi_frame.specs.Frame.{wakes, lengthAt, readFrame}
 use Rattle.cdi_item.specs.Items.{items, itemIn, itemOf}
 use Rattle.cdi_item.specs.Values.{acceptedValue}
-use Rattle.cdi_frame.specs.Frame.{wakes, lengthAt, readFrame}
+use Rattle.answer_text.specs.Text.{hexText, refusedText, notHexText, printed}
 use Rattle.cdi_command.specs.Command.{select, commandOn, validateItem, isServed, isHeadLengthRight, validatePayload}
 use Rattle.cdi_state.specs.Valid.{validSlots, isValid}
-use Rattle.cdi_value.specs.Value.{settingByte, plainValue}
 use Rattle.cdi_store.specs.Store.{settingStored}
+use Rattle.cdi_value.specs.Value.{settingByte, plainValue}
 use Rattle.cdi_module.specs.Module.{commandIn, decide, step, resultOf}
-use Rattle.hex_text.specs.Hex.{space, lineFeed, pairs, hexLine}
-use Rattle.answer_text.specs.Text.{hexText, refusedText, notHexText, printed}
 use Rattle.cdi_log.specs.Replay.{lines, linesText, replayed}
 use Rattle.cdi_log.specs.Answered.{withLineFeeds}
 use Rattle.cdi_log.specs.Theorem.{modelReplayed}

@@ -10,11 +10,11 @@ use borrow.Author.Tests.{eqb-true, le-leb, leb-true, leb-false}
 use lib.Dec.{eqb, leb}
 use lib.ListN.{length, take, drop, length-append}
 use lib.Seq.{take-all, drop-append-seam, drop-drop, length-take-le}
-use Rattle.logic.proofs.Choice.{by-cases}
 use Rattle.bytes.specs.Bytes.{indexOf}
+use Rattle.logic.proofs.Choice.{by-cases}
 use Rattle.hex_text.specs.Hex.{hexLine, lineFeed, lineMax}
-use Rattle.answer_text.specs.Text.{printed}
 use Rattle.hex_text.proofs.Lines.{too-long}
+use Rattle.answer_text.specs.Text.{printed}
 use Rattle.cdi_state.specs.declared.ModuleState.{ModuleState}
 use Rattle.cdi_log.specs.Replay.{longer, lines, lineText, lineState, linesText, linesState, replayedFrom, stateAtEnd}
 use Rattle.cdi_log.specs.Answered.{printedMax, hasLineFeed, wholePart, unfinished, withLineFeeds, fitting, answered}

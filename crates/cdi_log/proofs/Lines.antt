@@ -7,8 +7,8 @@ use mathlib.Core.List.{List, [], _∷_, _++_, append-nil}
 use native.Mathlib.Omega.{arith}
 use lib.Dec.{eqb}
 use lib.ListN.{length, take, drop}
-use Rattle.logic.proofs.Choice.{by-cases}
 use Rattle.bytes.specs.Bytes.{indexOf, indexAfter}
+use Rattle.logic.proofs.Choice.{by-cases}
 use Rattle.hex_text.specs.Hex.{lineFeed}
 use Rattle.cdi_log.specs.Replay.{longer, lines}
 use Rattle.cdi_log.specs.Answered.{hasLineFeed, wholePart, unfinished}

@@ -4,10 +4,10 @@
 use Prim.Native.Nat.{ℕ}
 use mathlib.Core.Path.{_≡_, refl, sym, ap, _∙_}
 use mathlib.Core.List.{List, [], _∷_, _++_, map}
-use Rattle.hex_text.specs.Hex.{Line, block, notHex, hexLine}
-use Rattle.answer_text.specs.Text.{printed}
 use Rattle.sequence.specs.Model.{results as modelResults}
 use Rattle.sequence.specs.Machine.{results}
+use Rattle.hex_text.specs.Hex.{Line, block, notHex, hexLine}
+use Rattle.answer_text.specs.Text.{printed}
 use Rattle.cdi_state.specs.declared.ModuleState.{ModuleState}
 use Rattle.cdi_state.specs.State.{factoryState, ArrayLengths}
 use Rattle.cdi_state.proofs.Laws.{factory-valid}

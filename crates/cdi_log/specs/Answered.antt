@@ -4,9 +4,9 @@ use mathlib.Core.Bool.{Bool, false, cond, _||_}
 use mathlib.Core.List.{List, [], _∷_, _++_}
 use lib.Dec.{eqb, leb}
 use lib.ListN.{length}
-use Rattle.cdi_command.specs.Payload.{responseBufferMin}
 use Rattle.hex_text.specs.Hex.{hexLine, lineFeed}
 use Rattle.answer_text.specs.Text.{printed}
+use Rattle.cdi_command.specs.Payload.{responseBufferMin}
 use Rattle.cdi_state.specs.declared.ModuleState.{ModuleState}
 use Rattle.cdi_log.specs.Replay.{lines, lineText, lineState}
 

@@ -4,9 +4,9 @@ use mathlib.Core.Bool.{cond}
 use mathlib.Core.List.{List, [], _∷_, _++_}
 use lib.Dec.{eqb}
 use lib.ListN.{take, replicate}
-use Rattle.cdi_command.specs.Payload.{responseBufferMin}
 use Rattle.hex_text.specs.Hex.{Line, block, notHex, hexLine, lineFeed}
 use Rattle.answer_text.specs.Text.{hexText, refusedText, notHexText, printed}
+use Rattle.cdi_command.specs.Payload.{responseBufferMin}
 use Rattle.cdi_state.specs.declared.ModuleState.{ModuleState}
 use Rattle.cdi_state.specs.State.{factoryState}
 use Rattle.cdi_model.specs.Step.{Step, command, StepResult, poweredUp, responded}

@@ -2,9 +2,9 @@
 use Prim.Native.Nat.{ℕ}
 use mathlib.Core.Path.{_≡_}
 use mathlib.Core.List.{List, [], _∷_, _++_, map}
+use Rattle.sequence.specs.Model.{results}
 use Rattle.hex_text.specs.Hex.{Line, block, notHex, hexLine}
 use Rattle.answer_text.specs.Text.{notHexText, printed}
-use Rattle.sequence.specs.Model.{results}
 use Rattle.cdi_model.specs.Step.{Step, StepResult}
 use Rattle.cdi_model.specs.Model.{model}
 use Rattle.cdi_model.specs.Factory.{factoryCells}

@@ -10,6 +10,8 @@ use lib.Dec.{eqb, ltb}
 use lib.ListN.{length, length-take}
 use Rattle.logic.proofs.Choice.{choice, neither}
 use Rattle.refusal.specs.Refusal.{Result, accepted as acceptedAs, refused}
+use Rattle.cdi_frame.specs.declared.Span.{Span}
+use Rattle.cdi_frame.specs.Frame.{wakeLimit, readFrame, payloadIn}
 use Rattle.cdi_item.specs.declared.Item.{Item}
 use Rattle.cdi_item.specs.declared.Value.{Value}
 use Rattle.cdi_item.specs.Items as item
@@ -17,8 +19,6 @@ use Rattle.cdi_item.specs.Items.{P, itemOf, permitted}
 use Rattle.cdi_item.specs.Values.{valueBytes, acceptedValue}
 use Rattle.cdi_item.proofs.Consistent.{found-indexed, found-programmable, found-row, found-short}
 use Rattle.cdi_item.proofs.Trimmed.{accepted-trimmed}
-use Rattle.cdi_frame.specs.declared.Span.{Span}
-use Rattle.cdi_frame.specs.Frame.{wakeLimit, readFrame, payloadIn}
 use Rattle.cdi_command.specs.declared.Index.{Index}
 use Rattle.cdi_command.specs.declared.Command.{Command}
 use Rattle.cdi_command.specs.declared.Command.the-variants.{Read, ReadIndexed, ReadNv, ReadNvIndexed, Write, WriteIndexed, Program, ProgramIndexed, SetDefault, EraseAll}

@@ -6,15 +6,15 @@ use mathlib.Core.Bool.{Bool, true, cond}
 use mathlib.Core.List.{List, [], _∷_, _++_, map, map-congr-left}
 use lib.Dec.{ltb}
 use lib.ListN.{length, replicate}
-use Rattle.cdi_command.specs.Payload.{responseBufferMin}
 use Rattle.logic.specs.Lists.{allBelow, hasZero}
 use Rattle.logic.specs.Written.{written}
+use Rattle.sequence.specs.Model.{next, results}
 use Rattle.refusal.specs.Refusal.{invalid, responseBufferShort}
+use Rattle.cdi_frame.specs.Frame.{wakes, lengthAt, readFrame}
 use Rattle.cdi_item.specs.Items.{items, itemIn, itemOf}
 use Rattle.cdi_item.specs.Values.{acceptedValue}
-use Rattle.cdi_frame.specs.Frame.{wakes, lengthAt, readFrame}
+use Rattle.cdi_command.specs.Payload.{responseBufferMin}
 use Rattle.cdi_command.specs.Command.{select, commandOn, validateItem, isServed, isHeadLengthRight, validatePayload}
-use Rattle.sequence.specs.Model.{next, results}
 use Rattle.cdi_model.specs.Cells.{nv, working, txPower, controlSource, messageSelect, interruptMask, setting, input, slot, Single, name, firmware, serial, lines, rssi, ladj, events, flags, hardwarePower, hardwareLineMask, hardwareLatchMask, Cell, stored, single, same}
 use Rattle.cdi_model.specs.Values.{upToZero}
 use Rattle.cdi_model.specs.Factory.{factoryCells}

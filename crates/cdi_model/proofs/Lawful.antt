@@ -6,10 +6,10 @@ use mathlib.Core.Bool.{true, false, cond, _&&_, _||_, and-false, and-eq-true-iff
 use mathlib.Core.List.{List}
 use lib.Dec.{ltb}
 use lib.ListN.{length}
-use Rattle.cdi_command.specs.Payload.{responseBufferMin}
 use Rattle.logic.proofs.Choice.{choice, by-cases, either}
 use Rattle.sequence.specs.Model.{Lawful, next, accepts, touches, results}
 use Rattle.sequence.proofs.Laws.{results-by-real}
+use Rattle.cdi_command.specs.Payload.{responseBufferMin}
 use Rattle.cdi_model.specs.Cells.{nv, working, lineMask, latchMask, txPower, controlSource, interruptMask, setting, events, flags, hardwarePower, hardwareLineMask, hardwareLatchMask, Cell, stored, single, hasWorking, isKey, isCell, same}
 use Rattle.cdi_model.specs.Step.{Step, powerUp, command}
 use Rattle.cdi_model.specs.Action.{Action, read, readNv, readStatus, write, program, setDefault, eraseAll}

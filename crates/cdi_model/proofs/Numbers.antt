@@ -7,13 +7,13 @@ use mathlib.Core.List.{List}
 use borrow.Author.Tests.{eqb-true}
 use lib.Dec.{eqb, ltb}
 use lib.ListN.{length}
-use Rattle.cdi_command.specs.Payload.{responseBufferMin}
 use Rattle.logic.proofs.Choice.{choice, by-cases}
 use Rattle.refusal.specs.Refusal.{Result, accepted, refused, none}
 use Rattle.refusal.proofs.Results.{among}
 use Rattle.cdi_frame.specs.declared.Span.{Span}
 use Rattle.cdi_frame.specs.Frame.{wakeLimit, readFrame, payloadIn}
 use Rattle.cdi_frame.proofs.Refusals.{frameRefusals, frame-refusal}
+use Rattle.cdi_command.specs.Payload.{responseBufferMin}
 use Rattle.cdi_command.specs.declared.Command.{Command}
 use Rattle.cdi_command.specs.Command.{validatePayload}
 use Rattle.cdi_command.proofs.Refusals.{payloadRefusals, payload-refusal}

@@ -7,15 +7,15 @@ use lib.Dec.{ltb}
 use lib.ListN.{length, drop}
 use Rattle.logic.specs.Lists.{allBelow, hasZero}
 use Rattle.logic.specs.Written.{written}
+use Rattle.sequence.specs.Model.{Model}
 use Rattle.refusal.specs.Refusal.{Result, accepted as acceptedAs, refused, none, invalid, responseBufferShort}
-use Rattle.cdi_item.specs.Items.{slotCount}
 use Rattle.cdi_frame.specs.declared.Span.{Span}
 use Rattle.cdi_frame.specs.Frame.{wakeLimit, readFrame, payloadIn}
 use Rattle.cdi_frame.specs.Layout.{responseFrame}
+use Rattle.cdi_item.specs.Items.{slotCount}
 use Rattle.cdi_command.specs.declared.Command.{Command}
 use Rattle.cdi_command.specs.Command.{validatePayload}
 use Rattle.cdi_command.specs.Payload.{readResponse, readNvResponse, ackResponse, noError, responseBufferMin}
-use Rattle.sequence.specs.Model.{Model}
 use Rattle.cdi_model.specs.Cells.{Copy, nv, working, lineMask, latchMask, txPower, controlSource, messageSelect, interruptMask, Key, setting, input, slot, Single, name, firmware, serial, lines, rssi, ladj, events, flags, hardwarePower, hardwareLineMask, hardwareLatchMask, Cell, stored, single}
 use Rattle.cdi_model.specs.Values.{byteOf, accepted, acceptedFlags, defaultValue, emptySlot, noRssi, upToZero, statusBytes}
 use Rattle.cdi_model.specs.Step.{Step, powerUp, command, StepResult, poweredUp, responded}

@@ -23,6 +23,8 @@ use Rattle.cdi_state.specs.declared.Slot.{Slot}
 use Rattle.cdi_state.specs.declared.Settings.{Settings}
 use Rattle.cdi_state.specs.declared.ModuleState.{ModuleState}
 use Rattle.cdi_state.specs.State.{inputBytes, slotBytes, noSlot, defaultSettings, emptySlot, ArrayLengths, inputAt}
+use Rattle.cdi_state.specs.State.{place}
+use Rattle.cdi_store.specs.Store.{withSettings, withAddress, settingStored, inputFrom, inputStored, slotFrom, addressFrom, plainWritten, rowWritten, plainProgrammed, rowProgrammed, slotProgrammed, defaulted, erased, stateAfter, stateAtPowerUp}
 use Rattle.cdi_model.specs.Cells.{nv, working, Setting, lineMask, latchMask, txPower, controlSource, messageSelect, interruptMask, settingNumber, Key, setting, input, slot, address, name, firmware, serial, lines, rssi, ladj, events, flags, hardwarePower, hardwareLineMask, hardwareLatchMask, Cell, stored, single, hasWorking, isKey, isCell, sameKey, same}
 use Rattle.cdi_model.specs.Action.{Source, held, one, status, write, program, setDefault, eraseAll, keyOf, rowOf, sourceOf, readFrom, readNvFrom, actionOf}
 use Rattle.cdi_model.specs.Table.{actionStores, powerUpStores}
@@ -30,8 +32,6 @@ use Rattle.cdi_model.specs.Values.{defaultValue}
 use Rattle.cdi_model.specs.Model.{actionGives, powerUpGives}
 use Rattle.cdi_model.proofs.Keys.{width}
 use Rattle.cdi_model.proofs.Checked.{Checked}
-use Rattle.cdi_state.specs.State.{place}
-use Rattle.cdi_store.specs.Store.{withSettings, withAddress, settingStored, inputFrom, inputStored, slotFrom, addressFrom, plainWritten, rowWritten, plainProgrammed, rowProgrammed, slotProgrammed, defaulted, erased, stateAfter, stateAtPowerUp}
 use Rattle.cdi_module.specs.Machine.{settingHeld, cells}
 use Rattle.cdi_module.proofs.Views.{put-at, setting-put, setting-leaves-inputs, input-leaves-settings, input-put, same-singles}
 

@@ -12,6 +12,8 @@ use lib.Seq.{ext-getD}
 use borrow.Author.Tests.{ltb-false}
 use Rattle.logic.specs.Lists.{all}
 use Rattle.logic.proofs.Choice.{choice, by-cases, implied}
+use Rattle.sequence.specs.Model.{next}
+use Rattle.sequence.specs.Machine.{Follows}
 use Rattle.refusal.specs.Refusal.{Result, accepted, refused, andThen}
 use Rattle.cdi_frame.specs.declared.Span.{Span}
 use Rattle.cdi_frame.specs.Frame.{wakeLimit, readFrame, payloadIn}
@@ -31,6 +33,7 @@ use Rattle.cdi_state.specs.declared.AnalogInput.{AnalogInput}
 use Rattle.cdi_state.specs.declared.Settings.{Settings}
 use Rattle.cdi_state.specs.declared.ModuleState.{ModuleState}
 use Rattle.cdi_state.specs.State.{inputBytes, slotBytes, noSlot, noInput, ArrayLengths, inputAt}
+use Rattle.cdi_store.specs.Store.{withSettings, withAddress, addressFrom, settingStored, inputFrom, slotFrom, stateAfter, stateAtPowerUp}
 use Rattle.cdi_model.specs.Cells.{nv, working, Setting, lineMask, latchMask, txPower, controlSource, messageSelect, interruptMask, setting, input, slot, address, Single, name, firmware, serial, lines, rssi, ladj, events, flags, hardwarePower, hardwareLineMask, hardwareLatchMask, Cell, stored, single, isKey, isCell}
 use Rattle.cdi_model.specs.Step.{Step, powerUp, command}
 use Rattle.cdi_model.specs.Action.{Source, held, one, status, readFrom, readNvFrom, sourceOf, actionOf}
@@ -38,10 +41,7 @@ use Rattle.cdi_model.specs.Table.{Decision, refuse, execute, executePowerUp, st
 use Rattle.cdi_model.specs.Model as theirs
 use Rattle.cdi_model.specs.Model.{gives, model}
 use Rattle.cdi_model.proofs.Checked.{accepted-checked}
-use Rattle.sequence.specs.Model.{next}
-use Rattle.sequence.specs.Machine.{Follows}
 use Rattle.cdi_module.specs.Value.{valueRead}
-use Rattle.cdi_store.specs.Store.{withSettings, withAddress, addressFrom, settingStored, inputFrom, slotFrom, stateAfter, stateAtPowerUp}
 use Rattle.cdi_module.specs.Module as own
 use Rattle.cdi_module.specs.Machine.{settingHeld, singleHeld, cells, machine}
 use Rattle.cdi_module.proofs.Views.{inputs-length}

@@ -14,11 +14,11 @@ use Rattle.cdi_command.specs.declared.Command.{Command}
 use Rattle.cdi_command.specs.declared.Command.the-variants.{Read, ReadIndexed, ReadNv, ReadNvIndexed, Write, WriteIndexed, Program, ProgramIndexed, SetDefault, EraseAll}
 use Rattle.cdi_state.specs.declared.Settings.{Settings}
 use Rattle.cdi_state.specs.declared.ModuleState.{ModuleState}
+use Rattle.cdi_value.specs.Value.{settingByte, nameShown, statusShown, plainValue}
 use Rattle.cdi_model.specs.Cells.{Setting, lineMask, latchMask, txPower, controlSource, messageSelect, interruptMask, Key, setting, address, Single, name, firmware, serial, lines, rssi, ladj, events}
 use Rattle.cdi_model.specs.Action.{Source, held, one, status, readFrom, readNvFrom, sourceOf, actionOf}
 use Rattle.cdi_model.specs.Values.{upToZero}
 use Rattle.cdi_model.specs.Model.{shownSingle, statusOf, actionValue}
-use Rattle.cdi_value.specs.Value.{settingByte, nameShown, statusShown, plainValue}
 use Rattle.cdi_module.specs.Value.{valueRead}
 use Rattle.cdi_module.specs.Machine.{settingHeld, singleHeld, cells}
 

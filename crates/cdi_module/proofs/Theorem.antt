@@ -4,10 +4,10 @@ use mathlib.Core.Path.{_≡_, sym, ap, _∙_, fun-ext}
 use mathlib.Core.Bool.{false, cond}
 use lib.Dec.{ltb}
 use lib.ListN.{length}
-use Rattle.cdi_command.specs.Payload.{responseBufferMin}
 use Rattle.logic.proofs.Choice.{by-cases}
-use Rattle.refusal.specs.Refusal.{invalid, responseBufferShort}
 use Rattle.sequence.proofs.Theorem.{sequence-claims}
+use Rattle.refusal.specs.Refusal.{invalid, responseBufferShort}
+use Rattle.cdi_command.specs.Payload.{responseBufferMin}
 use Rattle.cdi_state.specs.declared.ModuleState.{ModuleState}
 use Rattle.cdi_state.specs.State.{ArrayLengths}
 use Rattle.cdi_state.specs.Valid.{isValid}

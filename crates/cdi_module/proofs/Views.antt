@@ -13,9 +13,9 @@ use Rattle.cdi_state.specs.declared.AnalogInput.{AnalogInput}
 use Rattle.cdi_state.specs.declared.Settings.{Settings}
 use Rattle.cdi_state.specs.declared.ModuleState.{ModuleState}
 use Rattle.cdi_state.specs.State.{inputBytes, noInput, inputAt}
-use Rattle.cdi_model.specs.Cells.{Setting, lineMask, latchMask, txPower, controlSource, messageSelect, interruptMask, Single, name, firmware, serial, lines, rssi, ladj, events, flags, hardwarePower, hardwareLineMask, hardwareLatchMask, settingNumber, singleNumber}
 use Rattle.cdi_state.specs.State.{settingBytes, place}
 use Rattle.cdi_store.specs.Store.{withBytes, settingStored, inputStored}
+use Rattle.cdi_model.specs.Cells.{Setting, lineMask, latchMask, txPower, controlSource, messageSelect, interruptMask, Single, name, firmware, serial, lines, rssi, ladj, events, flags, hardwarePower, hardwareLineMask, hardwareLatchMask, settingNumber, singleNumber}
 use Rattle.cdi_module.specs.Machine.{settingHeld, singleHeld}
 
 -- a row put into a list: the one fact that settings, inputs and slots share, over the row number

@@ -8,16 +8,16 @@ use native.Mathlib.Omega.{arith}
 use borrow.Author.Tests.{le-leb, lt-leb}
 use lib.ListN.{length, take, drop, length-append, length-drop, take-append-drop}
 use lib.Seq.{take-all, take-at, drop-at, drop-drop, length-take-le}
+use Rattle.bytes.specs.Bytes.{indexOf}
 use Rattle.logic.specs.Written.{written}
 use Rattle.logic.proofs.Rest.{nothing-left}
-use Rattle.bytes.specs.Bytes.{indexOf}
 use Rattle.hex_text.specs.Hex.{hexLine, lineFeed}
 use Rattle.answer_text.specs.Text.{printed}
 use Rattle.cdi_state.specs.declared.ModuleState.{ModuleState}
 use Rattle.cdi_log.specs.Replay.{lines, lineText, lineState, linesText, linesState}
 use Rattle.cdi_log.specs.Answered.{printedMax, wholePart, withLineFeeds, fitting, answered}
-use Rattle.cdi_replay.specs.Progress.{Prints, progress}
 use Rattle.cdi_log.proofs.Lines.{line-found, none-found, first-whole-line, no-whole-line}
+use Rattle.cdi_replay.specs.Progress.{Prints, progress}
 
 -- ---- the buffer
 -- what is left of a buffer has room for a line

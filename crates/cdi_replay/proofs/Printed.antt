@@ -7,10 +7,10 @@ use native.Mathlib.Omega.{arith}
 use borrow.Author.Tests.{le-leb}
 use lib.ListN.{length, take}
 use lib.Seq.{length-take-le}
-use Rattle.cdi_command.specs.Payload.{responseBufferMin}
 use Rattle.logic.specs.Written.{lengthIn, writtenIn}
 use Rattle.answer_text.specs.Text.{hexText, printed}
 use Rattle.answer_text.proofs.Text.{hexText-length}
+use Rattle.cdi_command.specs.Payload.{responseBufferMin}
 use Rattle.cdi_model.specs.Step.{StepResult}
 use Rattle.cdi_log.specs.Replay.{resultText}
 use Rattle.cdi_log.specs.Answered.{printedMax}

@@ -7,15 +7,15 @@ use native.Mathlib.Omega.{arith}
 use borrow.Author.Tests.{leb-true, le-leb}
 use lib.Dec.{leb}
 use lib.ListN.{length, take, drop, length-drop}
+use Rattle.bytes.specs.Bytes.{indexOf}
 use Rattle.logic.proofs.Choice.{by-cases}
 use Rattle.logic.proofs.Written.{written-front}
-use Rattle.bytes.specs.Bytes.{indexOf}
 use Rattle.hex_text.specs.declared.HexLine.{HexLine}
 use Rattle.hex_text.specs.declared.HexLine.the-variants.{NoRoom}
 use Rattle.hex_text.specs.Hex.{Line, block, notHex, hexLine, lineFeed, lineFrom, lineEnd, hexLineFor, lineWritten}
 use Rattle.hex_text.proofs.Laws.{room-enough}
-use Rattle.cdi_replay.specs.Progress.{blockMax, lineRead, ReadWithin}
 use Rattle.cdi_log.proofs.Lines.{line-within}
+use Rattle.cdi_replay.specs.Progress.{blockMax, lineRead, ReadWithin}
 
 held : (line : Line) (buffer : List ℕ) → (hexLineFor line (length buffer) ≡ NoRoom → ⊥)
     → (lineRead (hexLineFor line (length buffer)) (lineWritten line buffer) ≡ line) × ReadWithin (hexLineFor line (length buffer)) (length buffer)

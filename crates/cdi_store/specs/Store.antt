@@ -18,9 +18,9 @@ use Rattle.cdi_state.specs.declared.AnalogInput.{AnalogInput}
 use Rattle.cdi_state.specs.declared.Slot.{Slot}
 use Rattle.cdi_state.specs.declared.Settings.{Settings}
 use Rattle.cdi_state.specs.declared.ModuleState.{ModuleState}
+use Rattle.cdi_state.specs.State.{inputIn, slotIn, settingBytes, place, defaultSettings, emptySlot, noRssi}
 use Rattle.cdi_store.specs.declared.SettingField.{SettingField}
 use Rattle.cdi_store.specs.declared.SettingField.the-variants.{Byte, Row}
-use Rattle.cdi_state.specs.State.{inputIn, slotIn, settingBytes, place, defaultSettings, emptySlot, noRssi}
 
 -- ---- a state with the parts replaced that commands store in
 abbrev pub replaced : ModuleState → (address : List ℕ) (nv working : Settings) (slots : List Slot) → ModuleState

@@ -5,11 +5,11 @@ use mathlib.Core.Path.{_≡_}
 use mathlib.Core.List.{List, [], _∷_, map}
 use lib.IntN.{ℤ, pos}
 use lib.ListN.{length, replicate}
-use Rattle.cdi_command.specs.Payload.{responseBufferMin}
 use Rattle.logic.specs.Written.{written}
-use Rattle.refusal.specs.Refusal.{none, endsEarly, wrongLength, notPermitted, wrongIndex, valueNotAccepted}
 use Rattle.sequence.specs.Machine.{run}
+use Rattle.refusal.specs.Refusal.{none, endsEarly, wrongLength, notPermitted, wrongIndex, valueNotAccepted}
 use Rattle.analog.specs.Analog.{result, readoutOf, percentOf}
+use Rattle.cdi_command.specs.Payload.{responseBufferMin}
 use Rattle.cdi_state.specs.State.{factoryState}
 use Rattle.cdi_model.specs.Step.{Step, command, StepResult, responded}
 use Rattle.cdi_model.specs.Model.{model}

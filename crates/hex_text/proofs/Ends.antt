@@ -10,10 +10,10 @@ use borrow.Author.Tests.{eqb-true, ne-eqb, le-leb, lt-leb}
 use lib.Dec.{eqb}
 use lib.ListN.{length, take, drop, getD, length-drop}
 use lib.Seq.{getD-drop, drop-drop, take-length, length-take-le}
-use Rattle.hex_text.specs.Scan.{isBlock, spaced, isLineEnd, lastPair}
+use Rattle.bytes.specs.Bytes.{slice, indexOf, indexAfter}
 use Rattle.logic.proofs.Choice.{by-cases}
 use Rattle.logic.proofs.Rest.{one-more, nothing-left}
-use Rattle.bytes.specs.Bytes.{slice, indexOf, indexAfter}
+use Rattle.hex_text.specs.Scan.{isBlock, spaced, isLineEnd, lastPair}
 use Rattle.hex_text.specs.Hex.{block, notHex, isDigit, isPair, space, lineFeed, pairs, hexLine, lineFrom, lineEnd}
 use Rattle.hex_text.proofs.Digits.{pair-digits, digit-place}
 use Rattle.hex_text.proofs.Spaced.{spaced-three, spaced-none, too-few-characters, spaced-within}

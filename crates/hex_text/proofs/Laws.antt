@@ -9,8 +9,8 @@ use native.Mathlib.Omega.{arith}
 use borrow.Author.Tests.{ltb-false, le-leb}
 use lib.Dec.{ltb, eqb}
 use lib.ListN.{length}
-use Rattle.hex_text.specs.Scan.{isBlock}
 use Rattle.logic.proofs.Choice.{by-cases}
+use Rattle.hex_text.specs.Scan.{isBlock}
 use Rattle.hex_text.specs.declared.HexLine.the-variants.{Block, NoRoom}
 use Rattle.hex_text.specs.Hex.{Line, block, notHex, pairs, hexLine, lineMax, hexLineFor}
 use Rattle.hex_text.proofs.Pairs.{Decodes, decodes, decodes-length, bytesOf}

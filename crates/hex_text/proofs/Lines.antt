@@ -8,9 +8,9 @@ use native.Mathlib.Omega.{arith}
 use borrow.Author.Tests.{ltb-true, ltb-false, lt-ltb, le-ltb, eq-eqb, ne-eqb, le-leb, lt-leb}
 use lib.Dec.{ltb}
 use lib.ListN.{length}
-use Rattle.hex_text.specs.Scan.{isBlock}
 use Rattle.logic.specs.Written.{written}
 use Rattle.logic.proofs.Choice.{by-cases}
+use Rattle.hex_text.specs.Scan.{isBlock}
 use Rattle.hex_text.specs.declared.HexLine.the-variants.{Block, NoRoom}
 use Rattle.hex_text.specs.Hex.{block, notHex, pairs, hexLine, lineMax, hexLineFor, lineWritten}
 use Rattle.hex_text.proofs.Pairs.{bytesOf, is-block, is-not-hex, count}

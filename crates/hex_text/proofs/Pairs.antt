@@ -9,8 +9,8 @@ use borrow.Author.Tests.{le-leb, eqb-true}
 use lib.Dec.{eqb}
 use lib.ListN.{length, getD}
 use lib.Seq.{sets}
-use Rattle.hex_text.specs.Scan.{isBlock}
 use Rattle.logic.proofs.Written.{stores}
+use Rattle.hex_text.specs.Scan.{isBlock}
 use Rattle.hex_text.specs.Hex.{Line, block, notHex, isPair, pairValue, prepend, space, pairs, lineWritten}
 use Rattle.hex_text.proofs.Digits.{allValues, pair-digits, pair-small, digit-place, values-right}
 

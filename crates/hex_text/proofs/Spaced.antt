@@ -11,8 +11,8 @@ use borrow.Author.Tests.{eq-eqb, ne-eqb}
 use lib.Dec.{eqb}
 use lib.ListN.{length, drop, getD, length-drop}
 use lib.Seq.{getD-drop, drop-drop}
-use Rattle.hex_text.specs.Scan.{spaced}
 use Rattle.logic.proofs.Choice.{by-cases}
+use Rattle.hex_text.specs.Scan.{spaced}
 use Rattle.hex_text.specs.Hex.{isPair, space}
 
 three-characters : (l : List ℕ) → 2 < length l → spaced l ≡ cond (isPair (getD l 0 0) (getD l 1 0) && eqb (getD l 2 0) space) (spaced (drop 3 l) + 3) 0

@@ -4,9 +4,9 @@ use mathlib.Core.Bool.{Bool, cond, _&&_, _||_}
 use mathlib.Core.List.{List, [], _∷_}
 use lib.Dec.{ltb, leb, eqb}
 use lib.ListN.{length, drop}
+use Rattle.bytes.specs.Bytes.{indexOf}
 use Rattle.logic.specs.Lists.{part}
 use Rattle.logic.specs.Written.{writtenIn}
-use Rattle.bytes.specs.Bytes.{indexOf}
 use Rattle.hex_text.specs.declared.HexLine.{HexLine}
 use Rattle.hex_text.specs.declared.HexLine.the-variants.{Block, NotHex, NoRoom}
 

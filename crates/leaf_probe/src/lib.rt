@@ -2,10 +2,10 @@
 // nothing: each function hands its arguments on and turns an enum into numbers.
 ghost use mathlib.Core.Path.{_≡_};
 ghost use lib.ListN.{length};
-ghost use Rattle.cdi_state.specs.State.{inputOffset};
+ghost use Rattle.logic.specs.Written.{written, lengthIn, writtenIn};
 ghost use Rattle.hex_text.specs.Hex.{lineFrom, lineEnd, hexLine, hexLineFor, lineWritten};
 ghost use Rattle.answer_text.specs.Text.{hexText, refusedText, notHexText, printed};
-ghost use Rattle.logic.specs.Written.{written, lengthIn, writtenIn};
+ghost use Rattle.cdi_state.specs.State.{inputOffset};
 ghost use Rattle.cdi_log.specs.Replay.{linesText};
 ghost use Rattle.cdi_log.specs.Answered.{answered};
 ghost use Rattle.cdi_replay.specs.Progress.{progress};

@@ -6,9 +6,9 @@ use native.Mathlib.Omega.{arith}
 use borrow.Author.Needs.{needs}
 use borrow.Author.Tests.{eq-eqb, ne-eqb, not-true, not-false}
 use lib.ListN.{length}
+use Rattle.logic.proofs.Written.{written-all}
 use Rattle.refusal.specs.Refusal.{none, outcome}
 use Rattle.cdi_image.specs.Image.{imageSize, imageOf, saved}
-use Rattle.logic.proofs.Written.{written-all}
 use Rattle.cdi_image.proofs.save.Statement.{statement}
 use Rattle.cdi_image.proofs.save.Tie as tie
 

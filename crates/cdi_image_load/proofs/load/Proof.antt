@@ -12,8 +12,8 @@ use Rattle.cdi_state.specs.declared.ModuleState.{ModuleState}
 use Rattle.cdi_state.specs.Valid.{isValid}
 use Rattle.cdi_store.specs.Store.{stateAtPowerUp}
 use Rattle.cdi_image.specs.Image.{mark, imageSize, withImage, validContents, loaded}
-use Rattle.cdi_image_load.specs.Load.{loadedAs}
 use Rattle.cdi_image.proofs.Contents.{contents-alone}
+use Rattle.cdi_image_load.specs.Load.{loadedAs}
 use Rattle.cdi_image_load.proofs.load.Statement.{statement}
 use Rattle.cdi_image_load.proofs.load.Tie as tie
 

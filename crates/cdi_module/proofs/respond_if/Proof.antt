@@ -5,9 +5,9 @@ use native.Mathlib.Omega.{arith}
 use native.Mathlib.Nat.{add-sub-cancel-left}
 use lib.ListN.{length}
 use borrow.Author.Tests.{lt-ltb, le-ltb, not-true, not-false}
-use Rattle.cdi_command.specs.Payload.{responseBufferMin}
 use Rattle.cdi_frame.specs.Frame.{wakeLimit, frameResult}
 use Rattle.cdi_frame.proofs.Accepted.{payload-within}
+use Rattle.cdi_command.specs.Payload.{responseBufferMin}
 use Rattle.cdi_module.specs.Module.{commandIn}
 use Rattle.cdi_module.proofs.Told.{refusal-told}
 use borrow.Author.Needs.{needs}

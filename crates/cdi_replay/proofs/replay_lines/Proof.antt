@@ -11,8 +11,8 @@ use Rattle.hex_text.specs.Hex.{hexLine}
 use Rattle.cdi_state.specs.State.{ArrayLengths}
 use Rattle.cdi_state.specs.Valid.{isValid}
 use Rattle.cdi_log.specs.Answered.{printedMax}
-use Rattle.cdi_replay.specs.Progress.{blockMax}
 use Rattle.cdi_log.proofs.Valid.{line-lengths, line-valid}
+use Rattle.cdi_replay.specs.Progress.{blockMax}
 use Rattle.cdi_replay.proofs.Read.{NextLine, next-read}
 use Rattle.cdi_replay.proofs.Answering.{SoFar, at-start, answered-line, room-left, no-room, no-line, all-answered}
 use Rattle.cdi_replay.proofs.replay_lines.Statement.{statement}

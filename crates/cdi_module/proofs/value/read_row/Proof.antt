@@ -5,10 +5,10 @@ use native.Mathlib.Omega.{arith}
 use Rattle.cdi_command.proofs.Accepted.{slot-in-range, input-in-range}
 use Rattle.cdi_module.proofs.Values.{input-at}
 use borrow.Author.Needs.{needs}
-use Rattle.cdi_module.proofs.value.read_row.Statement.{statement}
-use Rattle.cdi_module.proofs.value.read_row.Tie as tie
 use Rattle.cdi_state.proofs.AnalogInput.bytes.Reads as AnalogInput-bytes-reads
 use Rattle.cdi_state.proofs.Slot.bytes.Reads as Slot-bytes-reads
+use Rattle.cdi_module.proofs.value.read_row.Statement.{statement}
+use Rattle.cdi_module.proofs.value.read_row.Tie as tie
 
 in-range : (i : tie.After-index2) →
     let n = i .index2 .given .0 .0 .0 in
