@@ -76,18 +76,23 @@ static bool survive_power_loss(cdi_module_state *state)
     cdi_settings kept = state->nv;
     cdi_outcome saved = cdi_save(state, image, sizeof image);
 
-    if (saved.refusal != CDI_REFUSAL_NONE)
+    if (saved.refusal != CDI_REFUSAL_NONE) {
+        printf("%-10s refused %u\n", "save", saved.refusal);
         return false;
+    }
     printf("%-10s %zu bytes, mark %.3s\n", "image", saved.length, (const char *)image);
 
     *state = cdi_factory();
-    if (cdi_load(state, image, sizeof image) != CDI_REFUSAL_NONE)
+    uint8_t refusal = cdi_load(state, image, sizeof image);
+    if (refusal != CDI_REFUSAL_NONE) {
+        printf("%-10s refused %u\n", "load", refusal);
         return false;
+    }
     printf("%-10s message select %u, power %d dBm\n", "loaded", state->working.message_select,
            (int8_t)state->working.tx_power);
 
-    image[3] = 1; /* no version that there is */
-    uint8_t refusal = cdi_load(state, image, sizeof image);
+    image[3] = 1; /* version 0x0101, which there is not */
+    refusal = cdi_load(state, image, sizeof image);
     printf("%-10s refused %u\n", "load", refusal);
     return refusal == CDI_REFUSAL_IMAGE_VERSION && memcmp(&kept, &state->nv, sizeof kept) == 0
         && memcmp(&kept, &state->working, sizeof kept) == 0;

@@ -135,7 +135,10 @@ enum {
  * power-up and a save are refused; a load puts it right.
  */
 
-/* A paired module (item 0x18). All bytes zero is an empty slot. */
+/*
+ * A paired module (item 0x18). All bytes zero is an empty slot; an address of zeros goes with the
+ * mask 0 alone.
+ */
 typedef struct {
     uint8_t address[4];
     uint8_t mask;

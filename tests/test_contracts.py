@@ -19,14 +19,17 @@ PUBLIC_USE = re.compile(r"^\s*pub use (.*);?$")
 CONTRACTS = "docs/CONTRACTS.md"
 
 
-def breaches(source):
-    """The public functions of a source text as (line, name, faults); faults is empty where the rule is kept."""
+def functions_of(source):
+    """The public functions of a source text as (line, name, head): a method's name has its type's before it, and the head ends at the body.
+    What a `pub use` hands out stands among them, with no head."""
     lines = [line.split("//")[0].rstrip() for line in source.split("\n")]
-    found = []
+    owner = ""
     for number, line in enumerate(lines):
+        opens = re.match(r"impl (\w+)", line)
+        owner = opens.group(1) + "::" if opens else "" if line == "}" else owner
         handed_out = PUBLIC_USE.match(line)
         if handed_out:
-            found.append((number + 1, handed_out.group(1), ["is handed out by pub use"]))
+            yield number + 1, handed_out.group(1), None
         match = FUNCTION.match(line)
         if not match:
             continue
@@ -36,14 +39,20 @@ def breaches(source):
             # The body's brace ends the head. A clause is `requires { .. }` or `ensures { .. }` and never ends in a bare brace.
             if text.strip() == "{" or (text.endswith("{") and not re.search(r"\b(requires|ensures|ghost)\b", text)):
                 break
-        clauses = "\n".join(head)
+        yield number + 1, owner + match.group(1), "\n".join(head)
+
+
+def breaches(source):
+    """The public functions of a source text as (line, name, faults); faults is empty where the rule is kept."""
+    for line, name, head in functions_of(source):
         faults = []
-        if re.search(r"^\s*requires\b", clauses, re.M):
+        if head is None:
+            faults.append("is handed out by pub use")
+        elif re.search(r"^\s*requires\b", head, re.M):
             faults.append("has a requires")
-        if not re.search(r"^\s*ensures\b", clauses, re.M):
+        if head is not None and not re.search(r"^\s*ensures\b", head, re.M):
             faults.append("has no ensures")
-        found.append((number + 1, match.group(1), faults))
-    return found
+        yield line, name, faults
 
 
 def public_files(source_folder):
@@ -114,14 +123,35 @@ def sections(text):
     return dict(zip(parts[1::2], parts[2::2]))
 
 
+def rows_of(section):
+    """The rows of a section's tables as lists of cells. A row that starts with an empty cell belongs to the function above it."""
+    for line in section.split("\n"):
+        if line.startswith("| ") and not line.startswith("|---"):
+            yield [cell.strip() for cell in line.strip("|").split("|")]
+
+
 def unlisted(section, functions, edits):
-    """What a crate's section lacks of its public functions and edits, and the edits that it has too many."""
+    """What a crate's section lacks of its public functions and edits, the edits that it has too many, and cells that say nothing."""
     bold = set(re.findall(r"\*\*`(\w+)`\*\*", section))
-    cells = {cell for line in section.split("\n") if line.startswith("| ") for cell in re.findall(r"`([\w:]+)`", line.split("|")[1])}
-    names = {cell.split("::")[-1] for cell in cells}
+    names = {name for row in rows_of(section) for name in re.findall(r"^`([\w:]+)`$", row[0])}
     yield from (f"the function {name} has no row" for name in sorted(set(functions) - names))
     yield from (f"the edit {name} is not named" for name in sorted(set(edits) - bold))
     yield from (f"there is no edit {name}" for name in sorted(bold - set(edits)))
+    yield from (f"the row {row[0] or row[-2]} says nothing of what was refused" for row in rows_of(section) if not row[-1])
+
+
+def uncited(section, functions):
+    """Where the column Cites names something that does not stand in the function's contract, or names nothing."""
+    for row in rows_of(section):
+        name = row[0].strip("`")
+        if name not in functions:
+            continue
+        cited = re.findall(r"[\w«»]+", " ".join(re.findall(r"`([^`]+)`", row[1])))
+        if not cited:
+            yield f"{name} cites nothing"
+        for word in cited:
+            if not re.search(rf"(?<!\w){re.escape(word)}(?!\w)", functions[name]):
+                yield f"{word} does not stand in the contract of {name}"
 
 
 def edits_of(crate):
@@ -131,36 +161,42 @@ def edits_of(crate):
 
 def check_the_list():
     """A name that is missing is found, and one that is too many."""
-    section = "| Function | Cites | Wrong answer | Refused |\n|---|---|---|---|\n| `Slot::bytes` | `x` | **`kept`**: y | z |\n"
-    wanted = ["the function store has no row", "the edit lost is not named", "there is no edit kept"]
-    came = list(unlisted(section, ["bytes", "store"], ["lost"]))
-    if came != wanted or list(unlisted(section, ["bytes"], ["kept"])):
+    section = "| Function | Cites | Wrong answer | Refused |\n|---|---|---|---|\n| `Slot::bytes` | `x` | **`kept`**: y | z |\n| | | w | |\n"
+    wanted = ["the function store has no row", "the edit lost is not named", "there is no edit kept", "the row w says nothing of what was refused"]
+    came = list(unlisted(section, ["Slot::bytes", "store"], ["lost"]))
+    came += uncited(section, {"Slot::bytes": "ensures x"})
+    came += uncited(section, {"Slot::bytes": "ensures xs"})
+    if came != wanted + ["x does not stand in the contract of Slot::bytes"]:
         sys.exit("the check itself is wrong: %r, expected %r" % (came, wanted))
+
+
+def crate_functions(crate):
+    """The public functions of a crate by name, with their heads, and the places where the rule is broken."""
+    heads, broken = {}, []
+    for path in public_files(os.path.join(ROOT, "crates", crate, "src")):
+        with open(path, encoding="utf-8") as file:
+            source = file.read()
+        heads.update({name: head for _, name, head in functions_of(source) if head})
+        broken += ["%s:%d: %s %s" % (os.path.relpath(path, ROOT), line, name, " and ".join(faults)) for line, name, faults in breaches(source) if faults]
+    return heads, broken
 
 
 def main():
     check_the_check()
     check_the_list()
-    total = broken = edits = 0
+    total = edits = 0
+    faults = []
     with open(os.path.join(ROOT, CONTRACTS), encoding="utf-8") as file:
         listed = sections(file.read())
     for crate in sorted(os.listdir(os.path.join(ROOT, "crates"))):
-        names = []
-        for path in public_files(os.path.join(ROOT, "crates", crate, "src")):
-            with open(path, encoding="utf-8") as file:
-                functions = breaches(file.read())
-            for line, name, faults in functions:
-                names.append(name)
-                if faults:
-                    broken += 1
-                    print("%s:%d: %s %s" % (os.path.relpath(path, ROOT), line, name, " and ".join(faults)))
-        for fault in unlisted(listed.get(crate, ""), names, edits_of(crate)):
-            broken += 1
-            print("%s: %s: %s" % (CONTRACTS, crate, fault))
-        total += len(names)
+        functions, broken = crate_functions(crate)
+        section = listed.get(crate, "")
+        faults += broken
+        faults += [f"{CONTRACTS}: {crate}: {fault}" for fault in [*unlisted(section, functions, edits_of(crate)), *uncited(section, functions)]]
+        total += len(functions)
         edits += len(edits_of(crate))
-    print("%d public functions and %d must-fail edits; %d break the rule or are not listed" % (total, edits, broken))
-    sys.exit(0 if total and not broken else 1)
+    print("\n".join(faults + ["%d public functions and %d must-fail edits; %d faults" % (total, edits, len(faults))]))
+    sys.exit(0 if total and not faults else 1)
 
 
 main()

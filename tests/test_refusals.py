@@ -33,7 +33,7 @@ NUMBERS = {
 # A refusal that is written as a number, in the source and in the definitions.
 BARE = {
     ".rt": re.compile(r"\bRefused\(\s*\d|\brefused\(\s*\d|\brefusal:\s*\d"),
-    ".antt": re.compile(r"\b(?:refused|outcome|result)\s+\d|\brefusal\s*=\s*\d"),
+    ".antt": re.compile(r"\b(?:refuse|refused|outcome|result|responded|poweredUp)\s+\d|\brefusal\s*=\s*\d"),
 }
 
 
@@ -71,8 +71,8 @@ def main():
         sys.exit("the C header: %r, expected %r" % (header, wanted))
 
     source = "a\nreturn Frame::Refused(\n    3,\n);\n// Refused(4)\n"
-    definition = "(refused 12)\n-- refused 7\n(result 15 0)\n"
-    if bare_numbers(".rt", source) != [2] or bare_numbers(".antt", definition) != [1, 3]:
+    definition = "(refused 12)\n-- refused 7\n(result 15 0)\n(refuse 2)\n"
+    if bare_numbers(".rt", source) != [2] or bare_numbers(".antt", definition) != [1, 3, 4]:
         sys.exit("the search for bare numbers is wrong")
     files = 0
     for folder, _, names in os.walk(os.path.join(ROOT, "crates")):

@@ -1,7 +1,7 @@
 #!/usr/bin/env python3
 """docs/TRACE.md names things that there are: in its tables every path exists, relative to crates/ or to the root, and every name behind
 a path stands in that file as a whole word; a name of a .rt or .antt file not only in a comment or an import, and one of
-docs/DECISIONS.md at the start of a row. A row has at least one path, and quotes a few words of the paper, not whole sentences. Of the
+docs/DECISIONS.md at the start of a row. A row has at least one path, and quotes a few words of the paper. Of the
 definitions' files each is listed once under "What a reader believes", with its count of lines."""
 import glob
 import os
@@ -12,7 +12,7 @@ ROOT = os.path.dirname(os.path.dirname(os.path.abspath(__file__)))
 TRACE = "docs/TRACE.md"
 DECISIONS = "docs/DECISIONS.md"
 READER = "## What a reader believes"
-MOST_WORDS = 12  # of a piece that is quoted
+MOST_WORDS = 5  # of a piece that is quoted
 
 # What a comment and an import look like, in the files that have code.
 ASIDES = {
