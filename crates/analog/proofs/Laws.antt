@@ -39,10 +39,10 @@ refused-readout-zero rs offset = each-result (λ r. (r .refusal ≡ none → ⊥
 
 -- the offset is signed: with -1, a reading of 0 stays at the lower end
 pub offset-signed : readoutOf (0 ∷ []) (negsuc 0) ≡ result none 0
-unfolding sumOf anyOver
+unfolding sumOf
 offset-signed = refl
 
 -- the sum is divided once: readings of 1 and 2 give 24, though each of them halved would give 16
 pub divided-once : readoutOf (1 ∷ 2 ∷ []) (pos 0) ≡ result none 24
-unfolding sumOf anyOver
+unfolding sumOf
 divided-once = refl

@@ -13,7 +13,7 @@ use Rattle.logic.proofs.Choice.{neither}
 use Rattle.analog.specs.Analog.{readingsMax, readingMax, readoutMax, scale, anyOver, sumOf}
 
 pub sum-bounded : (rs : List ℕ) → anyOver rs ≡ false → sumOf rs ≤ readingMax * length rs
-unfolding sumOf anyOver
+unfolding sumOf
 sum-bounded [] e = omega arith
 sum-bounded (r ∷ rs) e =
     let n = neither (ltb readingMax r) (anyOver rs) e in

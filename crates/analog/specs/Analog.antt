@@ -1,10 +1,11 @@
 -- Document 01, "Readout and percent".
 use Prim.Native.Nat.{ℕ, _+_, _*_, _/_, min}
-use mathlib.Core.Bool.{Bool, false, cond, _||_}
+use mathlib.Core.Bool.{Bool, cond, _||_}
 use mathlib.Core.List.{List, [], _∷_}
 use lib.Dec.{eqb, ltb}
 use lib.IntN.{ℤ, pos, negsuc, _+ℤ_}
 use lib.ListN.{length}
+use Rattle.logic.specs.Lists.{any}
 use Rattle.refusal.specs.Refusal.{none, readingCount, readingOver}
 use Rattle.analog.specs.declared.ReadoutResult.{ReadoutResult}
 
@@ -32,9 +33,8 @@ abbrev pub result : ℕ → ℕ → ReadoutResult
 result refusal readout = record { refusal = refusal; readout = readout }
 
 -- some reading is more than the converter can give
-unfoldable pub anyOver : List ℕ → Bool
-anyOver [] = false
-anyOver (r ∷ rs) = ltb readingMax r || anyOver rs
+abbrev pub anyOver : List ℕ → Bool
+anyOver rs = any (λ r. ltb readingMax r) rs
 
 unfoldable pub sumOf : List ℕ → ℕ
 sumOf [] = 0

@@ -1,9 +1,10 @@
 -- The lines of a part of an input that are answered: whole ones, as many as there is room for in a buffer.
 use Prim.Native.Nat.{ℕ, _-_, _*_}
-use mathlib.Core.Bool.{Bool, false, cond, _||_}
+use mathlib.Core.Bool.{Bool, cond}
 use mathlib.Core.List.{List, [], _∷_, _++_}
 use lib.Dec.{eqb, leb}
 use lib.ListN.{length}
+use Rattle.logic.specs.Lists.{any}
 use Rattle.hex_text.specs.Hex.{hexLine, lineFeed}
 use Rattle.answer_text.specs.Text.{printed}
 use Rattle.cdi_command.specs.Payload.{responseBufferMin}
@@ -12,8 +13,7 @@ use Rattle.cdi_log.specs.Replay.{lines, lineText, lineState}
 
 -- ---- whole lines
 abbrev pub hasLineFeed : List ℕ → Bool
-hasLineFeed [] = false
-hasLineFeed (c ∷ chars) = eqb c lineFeed || hasLineFeed chars
+hasLineFeed chars = any (λ c. eqb c lineFeed) chars
 
 -- the characters as far as the last line feed, that included, ...
 unfoldable pub wholePart : List ℕ → List ℕ

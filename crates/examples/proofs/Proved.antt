@@ -5,7 +5,7 @@ use lib.ListN.{length}
 use Rattle.logic.specs.Lists.{hasZero}
 use Rattle.logic.specs.Written.{written}
 use Rattle.sequence.specs.Machine.{run}
-use Rattle.analog.specs.Analog.{anyOver, sumOf}
+use Rattle.analog.specs.Analog.{sumOf}
 use Rattle.cdi_frame.specs.Frame.{wakes, lengthAt, readFrame}
 use Rattle.cdi_item.specs.Items.{items, itemIn, itemOf}
 use Rattle.cdi_item.specs.Values.{acceptedValue}
@@ -20,6 +20,6 @@ pub example-count : length examples ≡ 16
 example-count = refl
 
 pub examples-hold : AllHold examples
-unfolding written run anyOver sumOf items itemIn itemOf acceptedValue wakes lengthAt readFrame select commandOn validateItem isServed isHeadLengthRight validatePayload hasZero validSlots isValid settingByte plainValue settingStored commandIn decide step resultOf
+unfolding written run sumOf items itemIn itemOf acceptedValue wakes lengthAt readFrame select commandOn validateItem isServed isHeadLengthRight validatePayload hasZero validSlots isValid settingByte plainValue settingStored commandIn decide step resultOf
 examples-hold =
     (refl, (refl, (refl, (refl, (refl, (refl, (refl, (refl, (refl, (refl, (refl, (refl, (refl, (refl, ((refl, refl), ((refl, tt), tt))))))))))))))))

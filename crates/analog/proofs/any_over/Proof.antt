@@ -27,7 +27,6 @@ shared-slice-read-if1 : tie.Need-shared-slice-read-if1 Inv-loop μ-loop
 shared-slice-read-if1 c = search needs
 
 returns : tie.Need-returns Inv-loop μ-loop
-unfolding anyOver
 returns c =
     let l = c .before .before .before .loop in
     let rs = c .before .before .before .before .args .readings .now in
@@ -40,14 +39,12 @@ loop-less : tie.Need-loop-less Inv-loop μ-loop
 loop-less c = omega arith
 
 loop-again : tie.Need-loop-again Inv-loop μ-loop
-unfolding anyOver
 loop-again c =
     let l = c .before .before .before .loop in
     let rs = c .before .before .before .before .args .readings .now in
     (omega arith, l .inv .1 ∙ rw (one-more rs (l .i) 0 (search needs)) (simp (le-ltb readingMax (getD rs (l .i) 0) (omega arith))))
 
 returns-2 : tie.Need-returns-2 Inv-loop μ-loop
-unfolding anyOver
 returns-2 c =
     let l = c .before .loop in
     let rs = c .before .before .args .readings .now in
