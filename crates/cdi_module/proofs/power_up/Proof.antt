@@ -1,4 +1,4 @@
--- An invalid state is refused and kept, and a valid one is restarted: the two cases of the decision.
+-- An invalid state is refused and kept, and a valid one is powered up: the two cases of the decision.
 -- Assumes nothing.
 use mathlib.Core.Path.{sym, _∙_}
 use borrow.Author.Tests.{not-true, not-false}
