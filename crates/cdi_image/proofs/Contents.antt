@@ -7,7 +7,7 @@ use mathlib.Core.List.{List}
 use mathlib.Core.Bool.{_&&_, and-true, and-assoc, and-self}
 use Rattle.logic.specs.Lists.{hasZero}
 use Rattle.cdi_state.specs.declared.ModuleState.{ModuleState}
-use Rattle.cdi_state.specs.Valid.{validSettings, validSlots, isValid}
+use Rattle.cdi_valid.specs.Valid.{validSettings, validSlots, isValid}
 use Rattle.cdi_store.specs.Store.{stateAtPowerUp}
 use Rattle.cdi_image.specs.Image.{imageName, imageSettings, imageSlots, withImage, validContents}
 

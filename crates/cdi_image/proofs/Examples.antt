@@ -9,7 +9,7 @@ use Rattle.refusal.specs.Refusal.{refusalOf}
 use Rattle.cdi_item.specs.Values.{acceptedValue}
 use Rattle.cdi_state.specs.declared.ModuleState.{ModuleState}
 use Rattle.cdi_state.specs.State.{factoryState}
-use Rattle.cdi_state.specs.Valid.{validSlots, isValid}
+use Rattle.cdi_valid.specs.Valid.{validSlots, isValid}
 use Rattle.cdi_module.specs.Machine.{cells}
 use Rattle.cdi_image.specs.Image.{imageOf, saved, slotsIn, loaded}
 

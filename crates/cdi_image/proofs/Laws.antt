@@ -10,7 +10,7 @@ use Rattle.refusal.specs.Refusal.{accepted}
 use Rattle.refusal.proofs.Results.{then-refused}
 use Rattle.cdi_state.specs.declared.ModuleState.{ModuleState}
 use Rattle.cdi_state.specs.State.{ArrayLengths, FieldLengths}
-use Rattle.cdi_state.specs.Valid.{validSettings, validSlots, validFlags, isValid}
+use Rattle.cdi_valid.specs.Valid.{validSettings, validSlots, validFlags, isValid}
 use Rattle.cdi_store.specs.Store.{stateAtPowerUp}
 use Rattle.cdi_image.specs.Image.{imageOf, saved, withImage}
 use Rattle.cdi_image.specs.Laws.{Reloaded, SaveThenLoad, AfterLoad, LoadThenSave}

@@ -11,7 +11,7 @@ use Rattle.cdi_state.specs.State.{inputIn, slotIn}
 use Rattle.cdi_state.specs.declared.Slot.{Slot}
 use Rattle.cdi_state.specs.declared.Settings.{Settings}
 use Rattle.cdi_state.specs.declared.ModuleState.{ModuleState}
-use Rattle.cdi_state.specs.Valid.{validSettings, validSlots, isValid}
+use Rattle.cdi_valid.specs.Valid.{validSettings, validSlots, isValid}
 use Rattle.cdi_store.specs.Store.{stateAtPowerUp}
 use Rattle.cdi_model.specs.Cells.{nv, lineMask, latchMask, txPower, controlSource, messageSelect, interruptMask, setting, input, slot, address, name, firmware, serial, Cell, stored, single}
 use Rattle.cdi_module.specs.Machine.{cells}

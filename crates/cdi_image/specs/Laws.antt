@@ -11,7 +11,7 @@ use Rattle.cdi_item.specs.Items.{slotCount}
 use Rattle.cdi_state.specs.declared.Settings.{Settings}
 use Rattle.cdi_state.specs.declared.ModuleState.{ModuleState}
 use Rattle.cdi_state.specs.State.{factoryState, ArrayLengths, FieldLengths}
-use Rattle.cdi_state.specs.Valid.{isValid}
+use Rattle.cdi_valid.specs.Valid.{isValid}
 use Rattle.cdi_model.specs.Cells.{nv, working, Single, name, firmware, serial, lines, rssi, ladj, events, flags, hardwarePower, hardwareLineMask, hardwareLatchMask, Cell, stored, single}
 use Rattle.cdi_model.specs.Table.{powerUpStores}
 use Rattle.cdi_model.specs.Model.{powerUpGives}

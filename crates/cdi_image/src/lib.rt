@@ -52,7 +52,7 @@ pub fn save(state: ModuleState, image: &mut [u8]) -> Outcome
     if image.len() != IMAGE_SIZE {
         return refusal::refused(IMAGE_LENGTH);
     }
-    if !state.is_valid() {
+    if !cdi_valid::is_valid(state) {
         return refusal::refused(INVALID);
     }
     write::write_image(state, image);

@@ -44,7 +44,7 @@ pub fn load(state: ModuleState, image: &[u8]) -> Loaded
     // The contents are valid exactly where the state made of them is: all that validity looks at comes from the image.
     let replaced = read::with_image(state, image);
     let after = cdi_store::powered_up(replaced);
-    if !after.is_valid() {
+    if !cdi_valid::is_valid(after) {
         return Loaded {
             state,
             refusal: INVALID,

@@ -11,7 +11,7 @@ use Rattle.cdi_item.specs.Items.{items, itemIn, itemOf}
 use Rattle.cdi_item.specs.Values.{acceptedValue}
 use Rattle.answer_text.specs.Text.{hexText, refusedText, notHexText, printed}
 use Rattle.cdi_command.specs.Command.{select, commandOn, validateItem, isServed, isHeadLengthRight, validatePayload}
-use Rattle.cdi_state.specs.Valid.{validSlots, isValid}
+use Rattle.cdi_valid.specs.Valid.{validSlots, isValid}
 use Rattle.cdi_store.specs.Store.{settingStored}
 use Rattle.cdi_value.specs.Value.{settingByte, plainValue}
 use Rattle.cdi_module.specs.Module.{commandIn, decide, step, resultOf}

@@ -10,7 +10,7 @@ use Rattle.hex_text.specs.Hex.{Line, block, notHex, hexLine}
 use Rattle.answer_text.specs.Text.{printed}
 use Rattle.cdi_state.specs.declared.ModuleState.{ModuleState}
 use Rattle.cdi_state.specs.State.{factoryState, ArrayLengths}
-use Rattle.cdi_state.proofs.Laws.{factory-valid}
+use Rattle.cdi_valid.proofs.Laws.{factory-valid}
 use Rattle.cdi_model.specs.Step.{Step}
 use Rattle.cdi_model.specs.Model.{model}
 use Rattle.cdi_model.specs.Factory.{factoryCells}

@@ -4,7 +4,7 @@ use mathlib.Core.Path.{_≡_, refl}
 use Rattle.hex_text.specs.Hex.{Line, block, notHex}
 use Rattle.cdi_state.specs.declared.ModuleState.{ModuleState}
 use Rattle.cdi_state.specs.State.{ArrayLengths}
-use Rattle.cdi_state.specs.Valid.{isValid}
+use Rattle.cdi_valid.specs.Valid.{isValid}
 use Rattle.cdi_module.proofs.Follows.{follows}
 use Rattle.cdi_module.proofs.Theorem.{validity-kept}
 use Rattle.cdi_log.specs.Replay.{blockStep, lineState}

@@ -10,7 +10,7 @@ use Rattle.refusal.specs.Refusal.{invalid, responseBufferShort}
 use Rattle.cdi_command.specs.Payload.{responseBufferMin}
 use Rattle.cdi_state.specs.declared.ModuleState.{ModuleState}
 use Rattle.cdi_state.specs.State.{ArrayLengths}
-use Rattle.cdi_state.specs.Valid.{isValid}
+use Rattle.cdi_valid.specs.Valid.{isValid}
 use Rattle.cdi_model.specs.Step.{Step, powerUp, command, StepResult, poweredUp, responded}
 use Rattle.cdi_model.specs.Model.{model, isValid as isValidCells}
 use Rattle.cdi_model.proofs.Lawful.{lawful, validity-kept as cells-validity-kept}

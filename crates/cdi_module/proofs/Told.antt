@@ -12,7 +12,7 @@ use Rattle.cdi_command.specs.Command.{validatedResult, validatePayload}
 use Rattle.cdi_command.specs.Payload.{responsePayload}
 use Rattle.cdi_command.proofs.Accepted.{accepted-payload}
 use Rattle.cdi_state.specs.declared.ModuleState.{ModuleState}
-use Rattle.cdi_state.specs.Valid.{isValid}
+use Rattle.cdi_valid.specs.Valid.{isValid}
 use Rattle.cdi_store.specs.Store.{stateFor}
 use Rattle.cdi_store.proofs.Tags.{nothing-stored as kept}
 use Rattle.cdi_model.specs.Step.{command, responded}

@@ -10,7 +10,7 @@ use Rattle.cdi_item.specs.Values.{acceptedValue}
 use Rattle.cdi_state.specs.declared.Slot.{Slot}
 use Rattle.cdi_state.specs.declared.ModuleState.{ModuleState}
 use Rattle.cdi_state.specs.State.{slotBytes, noSlot, ArrayLengths}
-use Rattle.cdi_state.specs.Valid.{validSettings, validSlot, validSlots, isValid}
+use Rattle.cdi_valid.specs.Valid.{validSettings, validSlot, validSlots, isValid}
 use Rattle.cdi_model.specs.Cells.{nv, working}
 use Rattle.cdi_model.specs.Values.{acceptedSlot}
 use Rattle.cdi_model.specs.Model.{validCopy, isValid as isValidCells}

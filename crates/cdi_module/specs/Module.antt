@@ -15,7 +15,7 @@ use Rattle.cdi_command.specs.declared.Validated.the-variants.{Refused}
 use Rattle.cdi_command.specs.Command.{validatedResult, validatePayload}
 use Rattle.cdi_command.specs.Payload.{commandPayload, responsePayload, responseBufferMin}
 use Rattle.cdi_state.specs.declared.ModuleState.{ModuleState}
-use Rattle.cdi_state.specs.Valid.{isValid}
+use Rattle.cdi_valid.specs.Valid.{isValid}
 use Rattle.cdi_store.specs.Store.{stores, stateAfter, stateAtPowerUp}
 use Rattle.cdi_model.specs.Step.{Step, powerUp, command, StepResult, poweredUp, responded}
 use Rattle.cdi_module.specs.Value.{valueRead}

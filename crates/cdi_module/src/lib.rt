@@ -9,7 +9,7 @@ ghost use Prim.Native.Nat.{_≤_};
 ghost use lib.ListN.{length};
 ghost use Rattle.cdi_command.specs.Payload.{responseBufferMin};
 ghost use Rattle.cdi_command.specs.Command.{validatePayload};
-ghost use Rattle.cdi_state.specs.Valid.{isValid};
+ghost use Rattle.cdi_valid.specs.Valid.{isValid};
 ghost use Rattle.cdi_model.specs.Step.{command, powerUp, poweredUp, responded};
 ghost use Rattle.cdi_module.specs.Module.{decided, decideIf, decide, refusedAs, Responds, step, resultOf};
 use cdi_command::Validated;
@@ -106,7 +106,7 @@ fn respond_if(valid: bool, state: ModuleState, block: &[u8], response: &mut [u8]
 pub fn respond(state: ModuleState, block: &[u8], response: &mut [u8]) -> Decided
     ensures { λ r. ⌜ Responds state (decide state (command (now (block .entry)) (now (response .entry)))) (now (response .entry)) (now (response .exit)) r ⌝ }
 {
-    let valid = state.is_valid();
+    let valid = cdi_valid::is_valid(state);
     respond_if(valid, state, block, response)
 }
 
@@ -117,7 +117,7 @@ fn is_known_or_valid(known: bool, state: ModuleState) -> bool
     if known {
         return true;
     }
-    state.is_valid()
+    cdi_valid::is_valid(state)
 }
 
 // The same for a state that may be known to be valid: no step changes whether a state is, so who runs many blocks asks once. Where
@@ -148,7 +148,7 @@ pub fn execute(state: ModuleState, block: &[u8], response: &mut [u8]) -> Executi
 pub fn power_up(state: ModuleState) -> PowerUp
     ensures { λ r. ⌜ (r .state ≡ step state powerUp) × (poweredUp (r .refusal) ≡ resultOf state powerUp) ⌝ }
 {
-    if !state.is_valid() {
+    if !cdi_valid::is_valid(state) {
         return PowerUp {
             state,
             refusal: INVALID,

@@ -9,7 +9,7 @@ ghost use Rattle.hex_text.specs.Hex.{Line};
 ghost use Rattle.answer_text.specs.Text.{notHexText};
 ghost use Rattle.cdi_command.specs.Payload.{responseBufferMin};
 ghost use Rattle.cdi_command.specs.Command.{validatedResult};
-ghost use Rattle.cdi_state.specs.Valid.{isValid};
+ghost use Rattle.cdi_valid.specs.Valid.{isValid};
 ghost use Rattle.cdi_store.specs.Store.{stateFor};
 ghost use Rattle.cdi_log.specs.Replay.{outcomeText, linesText};
 ghost use Rattle.cdi_log.specs.Answered.{printedMax, answered};
@@ -122,7 +122,7 @@ pub fn replay_lines(state: ModuleState, input: &[u8], output: &mut [u8]) -> Prog
         × (now (output .exit) ≡ written (now (output .entry)) (linesText state (answered state (now (input .entry)) (length (now (output .entry)))))) ⌝ }
 {
     let state = state.array_lengths();
-    let known = state.is_valid();
+    let known = cdi_valid::is_valid(state);
     let mut current = state;
     let mut used = 0;
     let mut start = 0;

@@ -1,19 +1,11 @@
--- The factory state is valid, and what some offsets are as numbers.
+-- What some offsets are as numbers.
 -- Assumes nothing.
 use Prim.Native.Nat.{ℕ}
 use mathlib.Core.Path.{_≡_, refl}
-use mathlib.Core.Bool.{true}
 use mathlib.Core.List.{[], _∷_}
 use lib.IntN.{pos, negℤ}
-use Rattle.logic.specs.Lists.{hasZero}
-use Rattle.cdi_item.specs.Values.{acceptedValue}
 use Rattle.cdi_state.specs.declared.AnalogInput.{AnalogInput}
-use Rattle.cdi_state.specs.State.{inputOffset, factoryState}
-use Rattle.cdi_state.specs.Valid.{validSlots, isValid}
-
-pub factory-valid : isValid factoryState ≡ true
-unfolding isValid hasZero validSlots acceptedValue
-factory-valid = refl
+use Rattle.cdi_state.specs.State.{inputOffset}
 
 -- an input with the two bytes of its offset
 abbrev pub withOffset : ℕ → ℕ → AnalogInput

@@ -9,7 +9,7 @@ use lib.ListN.{length}
 use Rattle.logic.specs.Lists.{sameBytes, part}
 use Rattle.refusal.specs.Refusal.{accepted, refused, invalid}
 use Rattle.cdi_state.specs.declared.ModuleState.{ModuleState}
-use Rattle.cdi_state.specs.Valid.{isValid}
+use Rattle.cdi_valid.specs.Valid.{isValid}
 use Rattle.cdi_store.specs.Store.{stateAtPowerUp}
 use Rattle.cdi_image.specs.Image.{mark, imageSize, withImage, validContents, loaded}
 use Rattle.cdi_image.proofs.Contents.{contents-alone}

@@ -9,7 +9,7 @@ use borrow.Author.Tests.{leb-true, leb-false}
 use lib.ListN.{length, take, drop}
 use Rattle.hex_text.specs.Hex.{hexLine}
 use Rattle.cdi_state.specs.State.{ArrayLengths}
-use Rattle.cdi_state.specs.Valid.{isValid}
+use Rattle.cdi_valid.specs.Valid.{isValid}
 use Rattle.cdi_log.specs.Answered.{printedMax}
 use Rattle.cdi_log.proofs.Valid.{line-lengths, line-valid}
 use Rattle.cdi_replay.specs.Progress.{blockMax}

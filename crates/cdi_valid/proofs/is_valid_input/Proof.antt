@@ -6,9 +6,9 @@ use mathlib.Core.List.{List, _∷_}
 use borrow.Author.Needs.{needs}
 use Rattle.cdi_item.specs.Items.{analogInput}
 use Rattle.cdi_item.specs.Values.{acceptedValue}
 use Rattle.cdi_state.proofs.Arrays.{two-long}
-use Rattle.cdi_state.proofs.is_valid_input.Statement.{statement}
-use Rattle.cdi_state.proofs.is_valid_input.Tie as tie
+use Rattle.cdi_valid.proofs.is_valid_input.Statement.{statement}
+use Rattle.cdi_valid.proofs.is_valid_input.Tie as tie
 
 array-read-t5 : tie.Need-array-read-t5
 array-read-t5 c = search needs

@@ -8,8 +8,8 @@ use borrow.Author.Needs.{needs}
 use lib.ListN.{drop}
 use Rattle.logic.specs.Lists.{hasZero}
 use Rattle.logic.proofs.Rest.{one-more, nothing-left}
-use Rattle.cdi_state.proofs.has_zero.Statement.{statement}
-use Rattle.cdi_state.proofs.has_zero.Tie as tie
+use Rattle.cdi_valid.proofs.has_zero.Statement.{statement}
+use Rattle.cdi_valid.proofs.has_zero.Tie as tie
 
 abbrev Inv-loop : tie.InvT-loop
 Inv-loop name found₀ i₀ found i = (i ≤ 17) × (hasZero name ≡ found || hasZero (drop i name))

@@ -5,9 +5,9 @@ use mathlib.Core.List.{[], _∷_}
 use borrow.Author.Needs.{needs}
 use Rattle.cdi_item.specs.Items.{pairedModule}
 use Rattle.cdi_item.specs.Values.{acceptedValue}
 use Rattle.cdi_state.proofs.Arrays.{four-long}
-use Rattle.cdi_state.proofs.is_valid_slot.Statement.{statement}
-use Rattle.cdi_state.proofs.is_valid_slot.Tie as tie
+use Rattle.cdi_valid.proofs.is_valid_slot.Statement.{statement}
+use Rattle.cdi_valid.proofs.is_valid_slot.Tie as tie
 
 array-read-t5 : tie.Need-array-read-t5
 array-read-t5 c = search needs

@@ -1,9 +1,9 @@
 -- Each part of the state is tested by the function whose contract is that part of the definition.
 -- Assumes nothing.
 use borrow.Author.Needs.{needs}
-use Rattle.cdi_state.specs.Valid.{isValid}
-use Rattle.cdi_state.proofs.ModuleState.is_valid.Statement.{statement}
-use Rattle.cdi_state.proofs.ModuleState.is_valid.Tie as tie
+use Rattle.cdi_valid.specs.Valid.{isValid}
+use Rattle.cdi_valid.proofs.is_valid.Statement.{statement}
+use Rattle.cdi_valid.proofs.is_valid.Tie as tie
 
 has-zero-requires : tie.Need-has-zero-requires
 has-zero-requires c κs = search needs

@@ -7,10 +7,10 @@ use native.Mathlib.Omega.{arith}
 use borrow.Author.Needs.{needs}
 use lib.ListN.{drop}
 use Rattle.logic.proofs.Rest.{one-more, nothing-left}
 use Rattle.cdi_state.specs.State.{noSlot}
-use Rattle.cdi_state.specs.Valid.{validSlots}
-use Rattle.cdi_state.proofs.are_valid_slots.Statement.{statement}
-use Rattle.cdi_state.proofs.are_valid_slots.Tie as tie
+use Rattle.cdi_valid.specs.Valid.{validSlots}
+use Rattle.cdi_valid.proofs.are_valid_slots.Statement.{statement}
+use Rattle.cdi_valid.proofs.are_valid_slots.Tie as tie
 
 abbrev Inv-loop : tie.InvT-loop
 Inv-loop slots valid₀ i₀ valid i = (i ≤ 40) × (validSlots slots ≡ valid && validSlots (drop i slots))

@@ -1,8 +1,8 @@
 -- Each part of one copy of the settings is asked about by its own item.
 -- Assumes nothing.
 use borrow.Author.Needs.{needs}
-use Rattle.cdi_state.proofs.are_valid_settings.Statement.{statement}
-use Rattle.cdi_state.proofs.are_valid_settings.Tie as tie
+use Rattle.cdi_valid.proofs.are_valid_settings.Statement.{statement}
+use Rattle.cdi_valid.proofs.are_valid_settings.Tie as tie
 
 element-copy-out-first : tie.Need-element-copy-out-first
 element-copy-out-first c = search needs

@@ -2,8 +2,8 @@
 -- Assumes nothing.
 use borrow.Author.Needs.{needs}
 use Rattle.cdi_item.specs.Values.{acceptedValue}
-use Rattle.cdi_state.proofs.accepts_byte.Statement.{statement}
-use Rattle.cdi_state.proofs.accepts_byte.Tie as tie
+use Rattle.cdi_valid.proofs.accepts_byte.Statement.{statement}
+use Rattle.cdi_valid.proofs.accepts_byte.Tie as tie
 
 accepts-requires : tie.Need-accepts-requires
 accepts-requires c κs = search needs

@@ -1,0 +1,127 @@
+// Whether a state is valid: document 01, "Items". Which values an item accepts is the item list's to say.
+ghost use mathlib.Core.Path.{_≡_};
+ghost use mathlib.Core.List.{[], _∷_};
+ghost use Rattle.logic.specs.Lists.{hasZero};
+ghost use Rattle.cdi_item.specs.Values.{acceptedValue};
+ghost use Rattle.cdi_valid.specs.Valid.{validInput, validSettings, validSlot, validSlots, validFlags, isValid};
+use cdi_item::Value;
+use cdi_item::code;
+use cdi_state::AnalogInput;
+use cdi_state::ModuleState;
+use cdi_state::NAME_LENGTH;
+use cdi_state::SLOT_COUNT;
+use cdi_state::Settings;
+use cdi_state::Slot;
+
+// The flags' bits of the mode, and those that are always zero.
+const MODE_MASK: u8 = 0x07;
+
+const MODE_MAX: u8 = 4;
+
+const FLAGS_ZERO: u8 = 0xC8;
+
+// Whether a 00 is among the bytes of a name. None ends the loop early, as with the slots below.
+fn has_zero(name: [u8; 17]) -> bool
+    ensures { λ r. ⌜ r ≡ hasZero name ⌝ }
+{
+    let mut found = false;
+    let mut i: usize = 0;
+    while i < NAME_LENGTH {
+        found = found | (name[i] == 0);
+        i += 1;
+    }
+    found
+}
+
+// Whether an item accepts a byte as its value.
+fn accepts_byte(item: u8, byte: u8) -> bool
+    ensures { λ r. ⌜ r ≡ acceptedValue item (byte ∷ []) ⌝ }
+{
+    cdi_item::accepts(
+        item,
+        Value {
+            byte0: byte,
+            byte1: 0,
+            byte2: 0,
+            byte3: 0,
+            byte4: 0,
+        },
+    )
+}
+
+fn is_valid_input(input: AnalogInput) -> bool
+    ensures { λ r. ⌜ r ≡ validInput input ⌝ }
+{
+    let offset = input.offset;
+    cdi_item::accepts(
+        code::ANALOG_INPUT,
+        Value {
+            byte0: input.channel,
+            byte1: input.readings,
+            byte2: input.reference,
+            byte3: offset[0],
+            byte4: offset[1],
+        },
+    )
+}
+
+fn is_valid_slot(slot: Slot) -> bool
+    ensures { λ r. ⌜ r ≡ validSlot slot ⌝ }
+{
+    let address = slot.address;
+    cdi_item::accepts(
+        code::PAIRED_MODULE,
+        Value {
+            byte0: address[0],
+            byte1: address[1],
+            byte2: address[2],
+            byte3: address[3],
+            byte4: slot.mask,
+        },
+    )
+}
+
+// No slot ends the loop early: without a branch for each, the loop is cheaper.
+fn are_valid_slots(slots: [Slot; 40]) -> bool
+    ensures { λ r. ⌜ r ≡ validSlots slots ⌝ }
+{
+    let mut valid = true;
+    let mut i: usize = 0;
+    while i < SLOT_COUNT {
+        let slot = slots[i];
+        valid = valid & is_valid_slot(slot);
+        i += 1;
+    }
+    valid
+}
+
+fn are_valid_settings(settings: Settings) -> bool
+    ensures { λ r. ⌜ r ≡ validSettings settings ⌝ }
+{
+    let first = settings.analog_inputs[0];
+    let second = settings.analog_inputs[1];
+    accepts_byte(code::TX_POWER, settings.tx_power)
+        & accepts_byte(code::CONTROL_SOURCE, settings.control_source)
+        & accepts_byte(code::MESSAGE_SELECT, settings.message_select)
+        & is_valid_input(first)
+        & is_valid_input(second)
+}
+
+fn are_valid_flags(flags: u8) -> bool
+    ensures { λ r. ⌜ r ≡ validFlags flags ⌝ }
+{
+    (flags & MODE_MASK <= MODE_MAX) & (flags & FLAGS_ZERO == 0)
+}
+
+// Whether commands and power-ups are accepted on the state (01's "sound").
+pub fn is_valid(state: ModuleState) -> bool
+    ensures { λ r. ⌜ r ≡ isValid state ⌝ }
+{
+    let name = state.name;
+    let slots = state.slots;
+    has_zero(name)
+        & are_valid_settings(state.nv)
+        & are_valid_settings(state.working)
+        & are_valid_slots(slots)
+        & are_valid_flags(state.flags)
+}
