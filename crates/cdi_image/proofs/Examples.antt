@@ -4,12 +4,11 @@ use Prim.Native.Nat.{ℕ}
 use mathlib.Core.Path.{_≡_, refl}
 use mathlib.Core.List.{List, [], _∷_, _++_, map, flatMap}
 use lib.ListN.{set, drop, replicate}
-use Rattle.logic.specs.Lists.{hasZero}
 use Rattle.refusal.specs.Refusal.{refusalOf}
 use Rattle.cdi_item.specs.Values.{acceptedValue}
 use Rattle.cdi_state.specs.declared.ModuleState.{ModuleState}
 use Rattle.cdi_state.specs.State.{factoryState}
-use Rattle.cdi_valid.specs.Valid.{validSlots, isValid}
+use Rattle.cdi_valid.specs.Valid.{isValid}
 use Rattle.cdi_module.specs.Machine.{cells}
 use Rattle.cdi_image.specs.Image.{imageOf, saved, slotsIn, loaded}
 
@@ -65,7 +64,7 @@ loads =
     (having 41 0x80, 0) ∷ (having 47 0xFF, 0) ∷ (having 48 0x01, 0) ∷ (having 243 0xFF, 0) ∷ (having 248 0xFF, 0) ∷ []
 
 pub loads-hold : map (λ (r : List ℕ × ℕ). refusalOf (loaded (flagged 0x80) (r .0))) loads ≡ map (λ (r : List ℕ × ℕ). r .1) loads
-unfolding loaded slotsIn hasZero validSlots acceptedValue
+unfolding loaded slotsIn acceptedValue
 loads-hold = refl
 
 -- flags, a buffer's length, and what a Save is refused with
@@ -76,5 +75,5 @@ saves =
     (0x05, (249, 2)) ∷ (0x08, (249, 2)) ∷ (0x40, (249, 2)) ∷ (0x80, (249, 2)) ∷ []
 
 pub saves-hold : map (λ (r : ℕ × (ℕ × ℕ)). refusalOf (saved (flagged (r .0)) (r .1 .0))) saves ≡ map (λ (r : ℕ × (ℕ × ℕ)). r .1 .1) saves
-unfolding saved isValid hasZero validSlots acceptedValue
+unfolding saved isValid acceptedValue
 saves-hold = refl

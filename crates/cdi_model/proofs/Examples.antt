@@ -6,7 +6,7 @@ use mathlib.Core.Bool.{Bool, true, cond}
 use mathlib.Core.List.{List, [], _∷_, _++_, map, map-congr-left}
 use lib.Dec.{ltb}
 use lib.ListN.{length, replicate}
-use Rattle.logic.specs.Lists.{allBelow, hasZero}
+use Rattle.logic.specs.Lists.{allBelow}
 use Rattle.logic.specs.Written.{written}
 use Rattle.sequence.specs.Model.{next, results}
 use Rattle.refusal.specs.Refusal.{invalid, responseBufferShort}
@@ -354,7 +354,7 @@ abbrev pub expected : Run → List StepResult
 expected r = map (λ (x : Row). x .1) (r .rows)
 
 pub factory-valid : isValid factoryCells ≡ true
-unfolding isValid allBelow hasZero
+unfolding isValid allBelow
 factory-valid = refl
 
 -- ---- no step changes validity, so it is computed once for a run
@@ -391,7 +391,7 @@ resultsOf r = resultsBy (isValid (r .start)) (r .start) (steps r)
 
 runs-hold : map resultsOf runs ≡ map expected runs
 unfolding written items itemIn itemOf acceptedValue wakes lengthAt readFrame
-    select commandOn validateItem isServed isHeadLengthRight validatePayload hasZero upToZero actionOf
+    select commandOn validateItem isServed isHeadLengthRight validatePayload upToZero actionOf
     stores allBelow isValid decidePayload decideBlock gives valueRead responsePayload resultOf
 runs-hold = refl
 

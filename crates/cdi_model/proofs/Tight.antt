@@ -8,7 +8,7 @@ use mathlib.Core.List.{List, [], _∷_, map, flatMap}
 use borrow.Author.Tests.{ltb-true, eq-eqb}
 use lib.Dec.{eqb}
 use lib.ListN.{length}
-use Rattle.logic.specs.Lists.{allBelow, sameBytes, hasZero, all, any}
+use Rattle.logic.specs.Lists.{allBelow, sameBytes, all, any}
 use Rattle.logic.proofs.Below.{all-at}
 use Rattle.logic.proofs.Choice.{choice}
 use Rattle.refusal.specs.Refusal.{valueNotAccepted}
@@ -89,7 +89,7 @@ all-true f h (c ∷ l) = and-eq-true-iff (f c) (all f l) .1 (h c, all-true f h l
 
 -- validity goes cell by cell, so it is computed for the states alone
 states-valid : (isValid (base hardwareShown) ≡ true) × (isValid (base workingShown) ≡ true) × (isValid other ≡ true)
-unfolding stateOf isValid allBelow hasZero
+unfolding stateOf isValid allBelow
 states-valid = (refl, refl, refl)
 
 changed-valid : (s : Cells) → isValid s ≡ true → (c : Cell) → isValid (changed s c) ≡ true

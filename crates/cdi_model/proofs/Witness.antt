@@ -4,7 +4,7 @@ use Prim.Native.Nat.{ℕ, _+_}
 use mathlib.Core.Path.{refl}
 use mathlib.Core.List.{List, [], _∷_}
 use lib.ListN.{length, replicate}
-use Rattle.logic.specs.Lists.{allBelow, hasZero}
+use Rattle.logic.specs.Lists.{allBelow}
 use Rattle.sequence.specs.Model.{Apart}
 use Rattle.cdi_frame.specs.Frame.{wakes, lengthAt, readFrame}
 use Rattle.cdi_item.specs.Items.{items, itemIn, itemOf}
@@ -41,7 +41,7 @@ pub record Witnesses : Type 0 where
 
 pub witnesses : Witnesses
 unfolding items itemIn itemOf acceptedValue wakes lengthAt readFrame select commandOn validateItem isServed isHeadLengthRight validatePayload
-    hasZero actionOf stores allBelow isValid decide decidePayload decideBlock gives
+    actionOf stores allBelow isValid decide decidePayload decideBlock gives
 witnesses = record {
   refused-and-power-up = refused-first factoryCells (writeBlock 0x15 0x07) powerUp refl;
   reads =

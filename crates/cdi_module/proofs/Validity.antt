@@ -32,7 +32,7 @@ unfolding acceptedValue
 slot-agrees x = refl
 
 slots-agree : (l : List Slot) → validSlots l ≡ allBelow (length l) (λ i. acceptedSlot (slotBytes (getD l i noSlot)))
-unfolding validSlots allBelow
+unfolding allBelow
 slots-agree [] = refl
 slots-agree (x ∷ l) =
     ap₂ _&&_ (slot-agrees x) (slots-agree l) ∙ sym (all-from-first (length l) (λ i. acceptedSlot (slotBytes (getD (x ∷ l) i noSlot))))

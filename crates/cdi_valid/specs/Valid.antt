@@ -1,11 +1,11 @@
 -- Document 01, "Items", the valid state (01's "sound"). What an item accepts stands in the item list's crate alone.
 use Prim.Native.Nat.{ℕ}
 use mathlib.Core.List.{List, [], _∷_}
-use mathlib.Core.Bool.{Bool, true, _&&_}
+use mathlib.Core.Bool.{Bool, _&&_}
 use lib.Bits.{bitAnd}
 use lib.Dec.{eqb, leb}
 use lib.ListN.{getD}
-use Rattle.logic.specs.Lists.{hasZero}
+use Rattle.logic.specs.Lists.{all, hasZero}
 use Rattle.cdi_item.specs.Items.{txPower, controlSource, messageSelect, analogInput, pairedModule}
 use Rattle.cdi_item.specs.Bits.{modeMask, modeMax, flagsZero}
 use Rattle.cdi_item.specs.Values.{acceptedValue}
@@ -30,9 +30,8 @@ validSettings s =
 abbrev pub validSlot : Slot → Bool
 validSlot s = acceptedValue pairedModule (slotBytes s)
 
-unfoldable pub validSlots : List Slot → Bool
-validSlots [] = true
-validSlots (s ∷ ss) = validSlot s && validSlots ss
+abbrev pub validSlots : List Slot → Bool
+validSlots slots = all validSlot slots
 
 -- the mode, bits 0 to 2, is at most 4, and bits 3, 6 and 7 are zero
 abbrev pub validFlags : ℕ → Bool

@@ -37,7 +37,6 @@ loop-less : tie.Need-loop-less Inv-loop μ-loop
 loop-less c = search needs
 
 loop-again : tie.Need-loop-again Inv-loop μ-loop
-unfolding validSlots
 loop-again c =
     let l = c .before .before .before in
     let slots = l .before .args .t1 in (
@@ -46,7 +45,6 @@ loop-again c =
     )
 
 returns : tie.Need-returns Inv-loop μ-loop
-unfolding validSlots
 returns c =
     let l = c .before .loop in
     sym (l .inv .1 ∙ rw (nothing-left (c .before .before .args .t1) (l .i) (search needs)) (and-true (l .valid)))

@@ -30,14 +30,12 @@ loop-less : tie.Need-loop-less Inv-loop μ-loop
 loop-less c = search needs
 
 loop-again : tie.Need-loop-again Inv-loop μ-loop
-unfolding hasZero
 loop-again c =
     let l = c .before .loop in
     let name = c .before .before .args .t1 in
     (search needs, l .inv .1 ∙ rw (one-more name (l .i) 0 (search needs)) (sym (or-assoc (l .found) _ _)))
 
 returns : tie.Need-returns Inv-loop μ-loop
-unfolding hasZero
 returns c =
     let l = c .before .loop in
     sym (l .inv .1 ∙ rw (nothing-left (c .before .before .args .t1) (l .i) (search needs)) (or-false (l .found)))
