@@ -631,7 +631,7 @@ BEHIND = {
     ("cdi_item", "find_item"): {9},
     # a log on any state, with 22 bytes for each response
     ("cdi_replay", "replay_lines"): {2, *OWN["replay"]},
-    ("leaf_probe", "probe_replay_lines"): {2, *OWN["replay"]},
+    ("log_probe", "probe_replay_lines"): {2, *OWN["replay"]},
 }
 
 # The file of the numbers' names, and definitions that cite such a name as a sample and give none.

@@ -2,17 +2,12 @@
 // nothing: each function hands its arguments on and turns an enum into numbers.
 ghost use mathlib.Core.Path.{_≡_};
 ghost use lib.ListN.{length};
-ghost use Rattle.logic.specs.Written.{written, lengthIn, writtenIn};
+ghost use Rattle.logic.specs.Written.{lengthIn, writtenIn};
 ghost use Rattle.hex_text.specs.Hex.{lineFrom, lineEnd, hexLine, hexLineFor, lineWritten};
 ghost use Rattle.answer_text.specs.Text.{hexText, refusedText, notHexText, printed};
 ghost use Rattle.cdi_state.specs.State.{inputOffset};
-ghost use Rattle.cdi_log.specs.Replay.{linesText};
-ghost use Rattle.cdi_log.specs.Answered.{answered};
-ghost use Rattle.cdi_replay.specs.Progress.{progress};
 ghost use Rattle.leaf_probe.specs.Probe.{lineProbe};
-use cdi_replay::Progress;
 use cdi_state::AnalogInput;
-use cdi_state::ModuleState;
 use hex_text::HexLine;
 
 // The answers to a line: a block, ...
@@ -87,17 +82,4 @@ pub extern "C" fn probe_write_not_hex(out: &mut [u8]) -> usize
     ensures { λ r. ⌜ (r ≡ lengthIn (now (out .entry)) (printed notHexText)) × (now (out .exit) ≡ writtenIn (now (out .entry)) (printed notHexText)) ⌝ }
 {
     answer_text::write_not_hex(out)
-}
-
-// Answers the whole lines of `input` from a state on, over the front of `output`.
-#[no_mangle]
-pub extern "C" fn probe_replay_lines(
-    state: ModuleState,
-    input: &[u8],
-    output: &mut [u8],
-) -> Progress
-    ensures { λ r. ⌜ (r ≡ progress state (answered state (now (input .entry)) (length (now (output .entry)))))
-        × (now (output .exit) ≡ written (now (output .entry)) (linesText state (answered state (now (input .entry)) (length (now (output .entry)))))) ⌝ }
-{
-    cdi_replay::replay_lines(state, input, output)
 }
