@@ -42,6 +42,7 @@ use Rattle.cdi_command.proofs.Validated.Laws as Va′
 use Rattle.cdi_state.specs.declared.ModuleState.{ModuleState}
 use Rattle.cdi_state.proofs.ModuleState as S
 use Rattle.cdi_state.proofs.ModuleState.Laws as S′
+use Rattle.in_place.proofs.InPlace.{mach, state-typed, updated, updated-goes, contractOf, entry-knowing, says, enters-mut, copies, hands-on, operand, part-of, fills, asks, receives, takes-known, stores-if, outcome, IsAnswer, answer-typed, aside, leaves, gives}
 use Rattle.cdi_store.specs.Store.{stateFor}
 use Rattle.cdi_store.proofs.store as store
 use Rattle.cdi_store.proofs.store.Symbol as store-def
@@ -55,7 +56,6 @@ use Rattle.cdi_module.proofs.Decided.Laws as D′
 use Rattle.cdi_module.proofs.respond as core
 use Rattle.cdi_module.proofs.respond.Symbol as core-def
 use Rattle.cdi_module.proofs.respond.Met as core-thm
-use Rattle.cdi_c.proofs.InPlace.{mach, state-typed, updated, updated-goes, contractOf, entry-knowing, says, enters-mut, copies, hands-on, operand, part-of, fills, asks, receives, takes-known, stores-if, outcome, IsAnswer, answer-typed, aside, leaves, gives}
 use Rattle.cdi_c.proofs.cdi_execute as entry
 use Rattle.cdi_c.proofs.cdi_execute.Key as key
 use Rattle.cdi_c.proofs.cdi_execute.Statement as stated

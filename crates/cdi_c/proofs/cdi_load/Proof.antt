@@ -27,11 +27,11 @@ use denote.Triple.Clauses.{Clauses, Lasts}
 use denote.Triple.Statement.{Triple}
 use denote.Triple.Walked.{Stays, Walks, ends-at, walked}
 use Rattle.cdi_state.proofs.ModuleState as S
+use Rattle.in_place.proofs.InPlace.{mach, updated, updated-goes, contractOf, entry-meets, says, enters-mut, copies, operand, asks, number, stores, aside, leaves, gives}
 use Rattle.cdi_image_load.specs.declared.Loaded.{Loaded}
 use Rattle.cdi_image_load.proofs.load as core
 use Rattle.cdi_image_load.proofs.load.Symbol as core-def
 use Rattle.cdi_image_load.proofs.load.Met as core-thm
-use Rattle.cdi_c.proofs.InPlace.{mach, updated, updated-goes, contractOf, entry-meets, says, enters-mut, copies, operand, asks, number, stores, aside, leaves, gives}
 use Rattle.cdi_c.proofs.cdi_load as entry
 use Rattle.cdi_c.proofs.cdi_load.Key as key
 use Rattle.cdi_c.proofs.cdi_load.Statement as stated

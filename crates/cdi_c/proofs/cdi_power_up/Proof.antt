@@ -22,11 +22,11 @@ use denote.Triple.Clauses.{Clauses, Lasts}
 use denote.Triple.Statement.{Triple}
 use denote.Triple.Walked.{Stays, Walks, ends-at, walked}
 use Rattle.cdi_state.proofs.ModuleState as S
+use Rattle.in_place.proofs.InPlace.{mach, updated, updated-goes, contractOf, entry-meets, says, enters-mut, copies, operand, asks, number, stores, aside, leaves, gives}
 use Rattle.cdi_module.specs.declared.PowerUp.{PowerUp}
 use Rattle.cdi_module.proofs.power_up as core
 use Rattle.cdi_module.proofs.power_up.Symbol as core-def
 use Rattle.cdi_module.proofs.power_up.Met as core-thm
-use Rattle.cdi_c.proofs.InPlace.{mach, updated, updated-goes, contractOf, entry-meets, says, enters-mut, copies, operand, asks, number, stores, aside, leaves, gives}
 use Rattle.cdi_c.proofs.cdi_power_up as entry
 use Rattle.cdi_c.proofs.cdi_power_up.Key as key
 use Rattle.cdi_c.proofs.cdi_power_up.Statement as stated

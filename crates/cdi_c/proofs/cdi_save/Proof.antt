@@ -34,10 +34,10 @@ use Rattle.refusal.proofs.Outcome as O
 use Rattle.refusal.proofs.Outcome.Laws as O′
 use Rattle.cdi_state.proofs.ModuleState as S
 use Rattle.cdi_state.proofs.ModuleState.Laws as S′
+use Rattle.in_place.proofs.InPlace.{mach, passed-on, passed-on-goes, contractOf, entry-meets, says, enters, takes, hands-on, operand, asks, aside, leaves, ends}
 use Rattle.cdi_image.proofs.save as core
 use Rattle.cdi_image.proofs.save.Symbol as core-def
 use Rattle.cdi_image.proofs.save.Met as core-thm
-use Rattle.cdi_c.proofs.InPlace.{mach, passed-on, passed-on-goes, contractOf, entry-meets, says, enters, takes, hands-on, operand, asks, aside, leaves, ends}
 use Rattle.cdi_c.proofs.cdi_save as entry
 use Rattle.cdi_c.proofs.cdi_save.Key as key
 use Rattle.cdi_c.proofs.cdi_save.Statement as stated
