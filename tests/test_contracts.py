@@ -5,8 +5,8 @@ Other crates can call what is `pub` in a library's root and in the modules that 
 private or a `pub(crate)` function: a public one refuses bad input itself. A `pub use` would hand out more than can be seen here,
 so there is none.
 
-docs/CONTRACTS.md has a section for each crate that has public functions or must-fail edits. It names every one of them, an edit in
-bold, and no edit that there is not.
+docs/CONTRACTS.md has a section for each crate that has public functions or edits. It names every one of them, an edit of the gate in
+bold and one that .ci/more tries in italics, and no edit that there is not.
 """
 import os
 import re
@@ -130,13 +130,15 @@ def rows_of(section):
             yield [cell.strip() for cell in line.strip("|").split("|")]
 
 
-def unlisted(section, functions, edits):
+def unlisted(section, functions, edits, more=()):
     """What a crate's section lacks of its public functions and edits, the edits that it has too many, and cells that say nothing."""
     bold = set(re.findall(r"\*\*`(\w+)`\*\*", section))
+    italic = set(re.findall(r"(?<!\*)\*`(\w+)`\*(?!\*)", section))
     names = {name for row in rows_of(section) for name in re.findall(r"^`([\w:]+)`$", row[0])}
     yield from (f"the function {name} has no row" for name in sorted(set(functions) - names))
     yield from (f"the edit {name} is not named" for name in sorted(set(edits) - bold))
     yield from (f"there is no edit {name}" for name in sorted(bold - set(edits)))
+    yield from (f"the edit {name} of .ci/more is not named, or there is none" for name in sorted(italic ^ set(more)))
     yield from (f"the row {row[0] or row[-2]} says nothing of what was refused" for row in rows_of(section) if not row[-1])
 
 
@@ -154,8 +156,8 @@ def uncited(section, functions):
                 yield f"{word} does not stand in the contract of {name}"
 
 
-def edits_of(crate):
-    folder = os.path.join(ROOT, "crates", crate, "must-fail")
+def edits_of(*parts):
+    folder = os.path.join(ROOT, *parts)
     return [name[: -len(".edit")] for name in os.listdir(folder)] if os.path.isdir(folder) else []
 
 
@@ -164,6 +166,8 @@ def check_the_list():
     section = "| Function | Cites | Wrong answer | Refused |\n|---|---|---|---|\n| `Slot::bytes` | `x` | **`kept`**: y | z |\n| | | w | |\n"
     wanted = ["the function store has no row", "the edit lost is not named", "there is no edit kept", "the row w says nothing of what was refused"]
     came = list(unlisted(section, ["Slot::bytes", "store"], ["lost"]))
+    wanted.append("the edit dear of .ci/more is not named, or there is none")
+    came += unlisted(section.replace("| | | w | |\n", ""), ["Slot::bytes"], ["kept"], ["dear"])
     came += uncited(section, {"Slot::bytes": "ensures x"})
     came += uncited(section, {"Slot::bytes": "ensures xs"})
     if came != wanted + ["x does not stand in the contract of Slot::bytes"]:
@@ -184,18 +188,20 @@ def crate_functions(crate):
 def main():
     check_the_check()
     check_the_list()
-    total = edits = 0
+    total = edits = more = 0
     faults = []
     with open(os.path.join(ROOT, CONTRACTS), encoding="utf-8") as file:
         listed = sections(file.read())
     for crate in sorted(os.listdir(os.path.join(ROOT, "crates"))):
         functions, broken = crate_functions(crate)
         section = listed.get(crate, "")
+        kept, others = edits_of("crates", crate, "must-fail"), edits_of("tests", "edits", crate)
         faults += broken
-        faults += [f"{CONTRACTS}: {crate}: {fault}" for fault in [*unlisted(section, functions, edits_of(crate)), *uncited(section, functions)]]
+        faults += [f"{CONTRACTS}: {crate}: {fault}" for fault in [*unlisted(section, functions, kept, others), *uncited(section, functions)]]
         total += len(functions)
-        edits += len(edits_of(crate))
-    print("\n".join(faults + ["%d public functions and %d must-fail edits; %d faults" % (total, edits, len(faults))]))
+        edits += len(kept)
+        more += len(others)
+    print("\n".join(faults + ["%d public functions, %d edits of the gate and %d more; %d faults" % (total, edits, more, len(faults))]))
     sys.exit(0 if total and not faults else 1)
 
 
