@@ -2,8 +2,7 @@
 """Compares what no entry of the C library shows with reference.py, call by call: lines of hex, the
 lines of a log that are answered in a buffer, and an analog input's offset as a number.
 
-Builds the crates `leaf_probe` and `log_probe` as shared libraries and calls their functions over the examples of
-document 01, over edges and over random inputs of a fixed seed. Every buffer that is handed over
+Builds the crate `probe` as a shared library and calls its functions over the examples of document 01, over edges and over random inputs of a fixed seed. Every buffer that is handed over
 lies between guard bytes; guards, inputs and all bytes of the outputs are compared too. The
 first difference ends the run with exit status 1.
 """
@@ -33,8 +32,6 @@ SIGNATURES = {
     "probe_write_block": (SIZE, (POINTER, SIZE, POINTER, SIZE)),
     "probe_write_refused": (SIZE, (BYTE, POINTER, SIZE)),
     "probe_write_not_hex": (SIZE, (POINTER, SIZE)),
-}
-LOG_SIGNATURES = {
     "probe_replay_lines": (
         struct(state=STATE, consumed=SIZE, written=SIZE),
         (STATE, POINTER, SIZE, POINTER, SIZE),
@@ -58,12 +55,8 @@ def replayed_lines(state, log, room):
 
 
 class Comparison(Calls):
-    """A method for each function of the two libraries: it calls the library and the reference, compares
+    """A method for each function of the library: it calls the library and the reference, compares
     what came, and returns it."""
-
-    def __init__(self, leaves, logs):
-        super().__init__(leaves)
-        self.logs = logs
 
     def signed_offset(self, row):
         came = self.library.probe_signed_offset(ANALOG_INPUT.from_buffer_copy(row))
@@ -114,7 +107,7 @@ class Comparison(Calls):
         after, consumed, text = replayed_lines(state, log, len(out))
         expected = packed(after), consumed, len(text), text + out[len(text) :]
         given = STATE.from_buffer_copy(packed(state))
-        progress = self.logs.probe_replay_lines(
+        progress = self.library.probe_replay_lines(
             given, self.input.give(log), len(log), self.output.give(out), len(out)
         )
         counts = progress.consumed, progress.written
@@ -451,7 +444,7 @@ CHECKS = (
 
 
 def main():
-    compare = Comparison(build("leaf_probe", SIGNATURES), build("log_probe", LOG_SIGNATURES))
+    compare = Comparison(build("probe", SIGNATURES))
     compare.run(CHECKS, SEED)
     print(f"{compare.calls:,} calls agree")
 

@@ -630,14 +630,14 @@ BEHIND = {
     ("cdi_command", "validate_payload"): {3, 7, 8, 9, 10, 11, 12},
     ("cdi_item", "find_item"): {9},
     # a log on any state, with 22 bytes for each response
-    ("cdi_replay", "replay_lines"): {2, *OWN["replay"]},
-    ("log_probe", "probe_replay_lines"): {2, *OWN["replay"]},
+    ("replay_lines", "replay_lines"): {2, *OWN["replay"]},
+    ("probe", "probe_replay_lines"): {2, *OWN["replay"]},
 }
 
 # The file of the numbers' names, and definitions that cite such a name as a sample and give none.
 NAMES = "crates/refusal/specs/Refusal.antt"
 SAMPLES = {
-    ("crates/examples/specs/Examples.antt", "examples"),
+    ("crates/paper_examples/specs/Examples.antt", "examples"),
     ("crates/cdi_model/specs/Tight.antt", "sampleDecisions"),
 }
 

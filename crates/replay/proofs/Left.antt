@@ -14,12 +14,12 @@ use Rattle.logic.specs.Written.{written}
 use Rattle.logic.proofs.Choice.{by-cases}
 use Rattle.logic.proofs.Written.{written-front}
 use Rattle.cdi_state.specs.declared.ModuleState.{ModuleState}
-use Rattle.cdi_log.specs.Replay.{linesText, linesState}
-use Rattle.cdi_log.specs.Answered.{printedMax, unfinished, withLineFeeds, answered}
-use Rattle.cdi_log.specs.Session.{keptOf}
-use Rattle.cdi_log.proofs.Laws.{consumed-within, unfinished-left}
-use Rattle.cdi_replay.specs.declared.Progress.{Progress}
-use Rattle.cdi_replay.specs.Progress.{progress}
+use Rattle.replay_text.specs.Replay.{linesText, linesState}
+use Rattle.replay_text.specs.Answered.{printedMax, unfinished, withLineFeeds, answered}
+use Rattle.replay_text.specs.Session.{keptOf}
+use Rattle.replay_text.proofs.Laws.{consumed-within, unfinished-left}
+use Rattle.replay_lines.specs.declared.Progress.{Progress}
+use Rattle.replay_lines.specs.Progress.{progress}
 use Rattle.replay.specs.Program.{bufferSize, between, Refilled, answers, leftBehind, isFull, Stays}
 
 -- a part of a buffer, once some of it is behind

@@ -11,12 +11,12 @@ use borrow.Author.Tests.{lt-ltb}
 use lib.ListN.{length}
 use Rattle.logic.proofs.Choice.{by-cases}
 use Rattle.cdi_state.specs.declared.ModuleState.{ModuleState}
-use Rattle.cdi_log.specs.Replay.{lines, linesText, linesState, replayedFrom}
-use Rattle.cdi_log.specs.Answered.{hasLineFeed, unfinished}
-use Rattle.cdi_log.specs.Session.{keptMax, keptOf, lastLine}
-use Rattle.cdi_log.proofs.Lines.{unfinished-has-none, last-line-finished}
-use Rattle.cdi_log.proofs.Laws.{pieces, pieces-then, unfinished-kept, last-line, none-taken, kept-enough}
-use Rattle.cdi_log.proofs.Theorem.{replay-theorem}
+use Rattle.replay_text.specs.Replay.{lines, linesText, linesState, replayedFrom}
+use Rattle.replay_text.specs.Answered.{hasLineFeed, unfinished}
+use Rattle.replay_text.specs.Session.{keptMax, keptOf, lastLine}
+use Rattle.replay_text.proofs.Lines.{unfinished-has-none, last-line-finished}
+use Rattle.replay_text.proofs.Laws.{pieces, pieces-then, unfinished-kept, last-line, none-taken, kept-enough}
+use Rattle.replay_text.proofs.Theorem.{replay-theorem}
 use Rattle.replay.specs.Program.{bufferSize, isEnd, charsAfter, answers, leftBehind, Stays, ReadsOn}
 use Rattle.replay.proofs.Left.{not-finished, at-last}
 use Rattle.replay.specs.Run.{charsRead, Run, last, next, RunTheorem}

@@ -1,4 +1,4 @@
--- What the program keeps from one turn to the next, around the text that `cdi_replay` has for an input.
+-- What the program keeps from one turn to the next, around the text that `replay_lines` has for an input.
 use Prim.Native.Nat.{ℕ, _-_}
 use mathlib.Core.Path.{_≡_}
 use mathlib.Core.Bool.{Bool, true, false, not, _&&_, _||_}
@@ -8,9 +8,9 @@ use lib.Dec.{ltb}
 use lib.ListN.{length, take, drop}
 use Rattle.logic.specs.Lists.{part}
 use Rattle.cdi_state.specs.declared.ModuleState.{ModuleState}
-use Rattle.cdi_log.specs.Replay.{linesText, linesState}
-use Rattle.cdi_log.specs.Answered.{printedMax, withLineFeeds, answered}
-use Rattle.cdi_log.specs.Session.{keptOf, lastLine}
+use Rattle.replay_text.specs.Replay.{linesText, linesState}
+use Rattle.replay_text.specs.Answered.{printedMax, withLineFeeds, answered}
+use Rattle.replay_text.specs.Session.{keptOf, lastLine}
 
 -- the input buffer and the output buffer
 abbrev pub bufferSize : ℕ

@@ -9,8 +9,8 @@ use mathlib.Core.Logic.{_⊎_, inl, inr}
 use mathlib.Core.List.{List, [], _++_}
 use Rattle.cdi_state.specs.declared.ModuleState.{ModuleState}
 use Rattle.cdi_state.specs.State.{factoryState}
-use Rattle.cdi_log.specs.Replay.{linesText}
-use Rattle.cdi_log.specs.Theorem.{modelReplayed}
+use Rattle.replay_text.specs.Replay.{linesText}
+use Rattle.replay_text.specs.Theorem.{modelReplayed}
 use Rattle.replay.specs.Program.{answers, Stays, ReadsOn, Turned}
 
 -- the characters that a turn read

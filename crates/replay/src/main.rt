@@ -1,14 +1,14 @@
 // The replay program: executes a log of command blocks, one to a line of hex, on a module as it leaves the factory, and prints
 // what came of each. Document 01, "Examples".
 //
-// `cdi_replay` has the text for the lines of an input. The program reads the input piece by piece, keeps what it has to of a line
+// `replay_lines` has the text for the lines of an input. The program reads the input piece by piece, keeps what it has to of a line
 // whose end is still to be read, and prints what is answered before it reads on.
 ghost use mathlib.Core.Path.{_≡_};
 ghost use Prim.Native.Nat.{_+_, _<_, _≤_};
 ghost use lib.ListN.{length, take, drop};
-ghost use Rattle.cdi_log.specs.Session.{keptMax, keptOf};
+ghost use Rattle.replay_text.specs.Session.{keptMax, keptOf};
 ghost use Rattle.replay.specs.Program.{bufferSize, between, isEnd, charsAfter, Refilled, Turned};
-use cdi_replay::PRINTED_MAX;
+use replay_lines::PRINTED_MAX;
 use cdi_state::ModuleState;
 use hex_text::LINE_FEED;
 use hex_text::LINE_MAX;
@@ -129,7 +129,7 @@ fn turn(session: Session, input: &mut [u8], output: &mut [u8]) -> Session
     let from = session.start;
     let end = session.end;
     let ended = session.ended;
-    let progress = cdi_replay::replay_lines(before, &input[from..end], output);
+    let progress = replay_lines::replay_lines(before, &input[from..end], output);
     let state = progress.state;
     let written = progress.written;
     let start = from + progress.consumed;

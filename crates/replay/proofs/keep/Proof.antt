@@ -7,7 +7,7 @@ use native.Mathlib.Omega.{arith}
 use borrow.Author.Needs.{needs}
 use borrow.Author.Tests.{ltb-true, ltb-false}
 use lib.ListN.{length, take, drop, length-set}
-use Rattle.cdi_log.specs.Session.{keptMax}
+use Rattle.replay_text.specs.Session.{keptMax}
 use Rattle.replay.proofs.Kept.{one-moved, kept-most, kept-all}
 use Rattle.replay.proofs.keep.Statement.{statement}
 use Rattle.replay.proofs.keep.Tie as tie

@@ -11,7 +11,7 @@ use borrow.Author.Tests.{not-false}
 use lib.Dec.{ltb}
 use lib.ListN.{length}
 use Rattle.logic.proofs.Choice.{neither}
-use Rattle.cdi_log.specs.Answered.{printedMax}
+use Rattle.replay_text.specs.Answered.{printedMax}
 use Rattle.replay.proofs.Left.{Learnt, learnt, refilled}
 use Rattle.replay.proofs.turn.Statement.{statement}
 use Rattle.replay.proofs.turn.Tie as tie

@@ -1,0 +1,183 @@
+-- `replay_lines::replay_lines` meets its contract: each turn answers the line that ends at the next line feed, behind the lines before it.
+-- Assumes nothing.
+use Prim.Native.Nat.{_+_, _-_}
+use mathlib.Core.Path.{_≡_, sym, _∙_}
+use mathlib.Core.Bool.{true}
+use native.Mathlib.Omega.{arith}
+use borrow.Author.Needs.{needs}
+use borrow.Author.Tests.{leb-true, leb-false}
+use lib.ListN.{length, take, drop}
+use Rattle.hex_text.specs.Hex.{hexLine}
+use Rattle.cdi_state.specs.State.{ArrayLengths}
+use Rattle.cdi_valid.specs.Valid.{isValid}
+use Rattle.replay_text.specs.Answered.{printedMax}
+use Rattle.replay_text.proofs.Valid.{line-lengths, line-valid}
+use Rattle.replay_lines.specs.Progress.{blockMax}
+use Rattle.replay_lines.proofs.Read.{NextLine, next-read}
+use Rattle.replay_lines.proofs.Answering.{SoFar, at-start, answered-line, room-left, no-room, no-line, all-answered}
+use Rattle.replay_lines.proofs.replay_lines.Statement.{statement}
+use Rattle.replay_lines.proofs.replay_lines.Tie as tie
+
+abbrev Inv-loop : tie.InvT-loop
+Inv-loop input output₀ known current₀ used₀ start₀ block₀ line₀ end₀ output current used start block line end =
+    (length output ≡ length output₀) × (length block ≡ blockMax) × NextLine input block start end (line .line)
+    × SoFar current₀ input output₀ current start used output × ArrayLengths current × (known ≡ true → isValid current ≡ true)
+
+abbrev μ-loop : tie.MeasureT-loop
+μ-loop input output₀ known current₀ used₀ start₀ block₀ line₀ end₀ output current used start block line end = length input - start
+
+array-lengths-requires : tie.Need-array-lengths-requires Inv-loop μ-loop
+array-lengths-requires c κs = search needs
+
+is-valid-requires : tie.Need-is-valid-requires Inv-loop μ-loop
+is-valid-requires c κs = search needs
+
+slice-aggregate-read-line-at : tie.Need-slice-aggregate-read-line-at Inv-loop μ-loop
+slice-aggregate-read-line-at c = search needs
+
+read-line-at-requires : tie.Need-read-line-at-requires Inv-loop μ-loop
+read-line-at-requires c κs = search needs
+
+loop-holds : tie.Need-loop-holds Inv-loop μ-loop
+loop-holds c =
+    let read = c .before .read-line-at in
+    let v = c .before .before .before in
+    let l = v .before .array-lengths in
+    let next = next-read _ _ _ 0 _ _ (omega arith) (search needs) (search needs) (read .ensures .0) (read .ensures .1) (read .ensures .2) in (
+      search needs,
+      search needs,
+      next,
+      at-start _ _ _,
+      rw (l .ensures .0) (l .ensures .1 .0),
+      λ t. sym (v .is-valid .ensures) ∙ t,
+    )
+
+sub-if1 : tie.Need-sub-if1 Inv-loop μ-loop
+sub-if1 c = search needs
+
+slice-aggregate-answer-line : tie.Need-slice-aggregate-answer-line Inv-loop μ-loop
+slice-aggregate-answer-line c = search needs
+
+sub-answer-line : tie.Need-sub-answer-line Inv-loop μ-loop
+sub-answer-line c = search needs
+
+part-answer-line-start : tie.Need-part-answer-line-start Inv-loop μ-loop
+part-answer-line-start c = search needs
+
+part-answer-line-end : tie.Need-part-answer-line-end Inv-loop μ-loop
+part-answer-line-end c = search needs
+
+answer-line-requires : tie.Need-answer-line-requires Inv-loop μ-loop
+answer-line-requires c κs =
+    let t = c .before .before in
+    let loop = t .before .before .loop in
+    let room = leb-true printedMax (length (loop .output) - loop .used) (t .if1 .taken) in
+    (loop .inv .5, loop .inv .2 .fits, room-left (loop .output) (loop .used) printedMax room)
+
+stored-requires : tie.Need-stored-requires Inv-loop μ-loop
+stored-requires c κs = search needs
+
+add-used : tie.Need-add-used Inv-loop μ-loop
+add-used c =
+    let a = c .before .before .before .before in
+    let t = a .before .before .before in
+    let loop = t .before .before .loop in
+    let s = t .before .before .before .before .before .before .before .before .before .before in
+    let room = leb-true printedMax (length (loop .output) - loop .used) (t .if1 .taken) in
+    omega (arith, room, a .answer-line .ensures .prints .few, loop .inv .0, s .good .1 .1 .0)
+
+add-start : tie.Need-add-start Inv-loop μ-loop
+add-start c =
+    let t = c .before .before .before .before .before .before .before in
+    let s = t .before .before .before .before .before .before .before .before .before .before in
+    omega (arith, t .before .loop-test .taken, s .good .1 .0)
+
+slice-aggregate-read-line-at-2 : tie.Need-slice-aggregate-read-line-at-2 Inv-loop μ-loop
+slice-aggregate-read-line-at-2 c = search needs
+
+read-line-at-requires-2 : tie.Need-read-line-at-requires-2 Inv-loop μ-loop
+read-line-at-requires-2 c κs = search needs
+
+loop-less : tie.Need-loop-less Inv-loop μ-loop
+loop-less c =
+    let t = c .before .before .before .before .before .before .before .before .before .before in
+    omega (arith, t .before .loop-test .taken, t .before .before .loop .inv .2 .found)
+
+loop-again : tie.Need-loop-again Inv-loop μ-loop
+loop-again c =
+    let read = c .before .read-line-at2 in
+    let n = c .before .before .before .before in
+    let o = n .before .before in
+    let a = o .before in
+    let t = a .before .before .before in
+    let loop = t .before .before .loop in
+    let z = t .before .before .before .before .before .before .before .before .before .before in
+    let input = z .args .input .now in
+    let inside = t .before .loop-test .taken in
+    let room = leb-true printedMax (length (loop .output) - loop .used) (t .if1 .taken) in
+    let line = hexLine (take (loop .end - loop .start) (drop (loop .start) input)) in
+    let answer = rw (loop .inv .2 .told) at (a .answer-line .ensures) in
+    let next = n .stored .ensures ∙ answer .stored in (
+      o .output .given .1 ∙ loop .inv .0,
+      search needs,
+      next-read input _ _ (loop .end + 1) _ _ (omega arith) (search needs) (search needs) (read .ensures .0) (read .ensures .1) (read .ensures .2),
+      answered-line input (loop .start) (loop .end) (loop .inv .2 .found) _ (loop .current) _ (z .args .output .now)
+          (loop .output) _ (loop .used) _ (loop .inv .0) (loop .inv .3) inside room next (answer .prints),
+      rw next (line-lengths (loop .current) line (loop .inv .4)),
+      λ k. rw next (line-valid (loop .current) line (loop .inv .4) ∙ loop .inv .5 k),
+    )
+
+same-length : tie.Need-same-length Inv-loop μ-loop
+same-length c = search needs
+
+returns : tie.Need-returns Inv-loop μ-loop
+returns c =
+    let loop = c .before .before .loop in
+    let l = c .before .before .before .before .before .before .before in
+    let z = l .before .before .before in
+    let short = leb-false printedMax (length (loop .output) - loop .used) (c .if1 .left) in
+    let so-far = rw (l .array-lengths .ensures .0) at (loop .inv .3) in
+    all-answered (z .args .state) (loop .current) (z .args .input .now) (z .args .output .now) (loop .output) (loop .start) (loop .used) (loop .inv .0)
+    so-far (no-room (loop .current) (z .args .input .now) (loop .start) (length (z .args .output .now) - loop .used) (omega (arith, loop .inv .0)))
+
+same-length-2 : tie.Need-same-length-2 Inv-loop μ-loop
+same-length-2 c = search needs
+
+returns-2 : tie.Need-returns-2 Inv-loop μ-loop
+returns-2 c =
+    let loop = c .before .loop in
+    let l = c .before .before .before .before .before .before in
+    let z = l .before .before .before in
+    let so-far = rw (l .array-lengths .ensures .0) at (loop .inv .3) in
+    all-answered (z .args .state) (loop .current) (z .args .input .now) (z .args .output .now) (loop .output) (loop .start) (loop .used) (loop .inv .0)
+    so-far (no-line (loop .current) (z .args .input .now) (loop .start) (loop .end) (length (z .args .output .now) - loop .used)
+    (loop .inv .2 .found) (omega arith))
+
+pub replay-lines-spec : {M : Type 1} → statement M
+replay-lines-spec =
+    tie.close
+    (tie.spec
+    Inv-loop
+    μ-loop
+    array-lengths-requires
+    is-valid-requires
+    slice-aggregate-read-line-at
+    read-line-at-requires
+    loop-holds
+    sub-if1
+    slice-aggregate-answer-line
+    sub-answer-line
+    part-answer-line-start
+    part-answer-line-end
+    answer-line-requires
+    stored-requires
+    add-used
+    add-start
+    slice-aggregate-read-line-at-2
+    read-line-at-requires-2
+    loop-less
+    loop-again
+    same-length
+    returns
+    same-length-2
+    returns-2)
