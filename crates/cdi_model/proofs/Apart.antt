@@ -6,27 +6,23 @@ use mathlib.Core.Path.{_≡_, refl, sym, subst, _∙_}
 use mathlib.Core.Bool.{Bool, true, false, _&&_, _||_, and-false, and-eq-true-iff, true≢false}
 use mathlib.Core.List.{List}
 use Rattle.logic.proofs.Choice.{by-cases, neither}
-use Rattle.sequence.specs.Model.{Apart, next, accepts, storesIn}
+use Rattle.sequence.specs.Model.{Apart, next, accepts}
 use Rattle.cdi_model.specs.Cells.{working, controlSource, messageSelect, Key, setting, Cell, stored, isCell, same, sameKey}
 use Rattle.cdi_model.specs.Step.{Step}
 use Rattle.cdi_model.specs.Action.{Action, read, readNv, readStatus, write, program, setDefault, eraseAll}
 use Rattle.cdi_model.specs.Table.{Decision, execute, actionReads, actionStores, reads, stores}
 use Rattle.cdi_model.specs.Model.{Cells, decide, model}
 use Rattle.cdi_model.proofs.Cells.{key-refl, same-eq}
-use Rattle.cdi_model.proofs.Lawful.{refused-touches-none}
-
--- a refused step stores in no cell
-stores-none : (s : Cells) (x : Step) → accepts model s x ≡ false → (c : Cell) → storesIn model s x c ≡ false
-stores-none s x e c = neither (reads (decide s x) c) (storesIn model s x c) (refused-touches-none s x e c) .1
+use Rattle.cdi_model.proofs.Lawful.{refused-stores-none, refused-touches-none}
 
 -- a refused step is apart from every step, before it and behind it
 pub refused-first : (s : Cells) (a b : Step) → accepts model s a ≡ false → Apart model s a b
-refused-first s a b e = record { first-stores = λ c p. cc (stores-none s a e c); second-stores = λ c p. refused-touches-none s a e c }
+refused-first s a b e = record { first-stores = λ c p. cc (refused-stores-none s a e c); second-stores = λ c p. refused-touches-none s a e c }
 
 pub refused-second : (s : Cells) (a b : Step) → accepts model (next model s a) b ≡ false → Apart model s a b
 refused-second s a b e =
     let t = next model s a in
-    record { first-stores = λ c p. refused-touches-none t b e c; second-stores = λ c p. cc (stores-none t b e c) }
+    record { first-stores = λ c p. refused-touches-none t b e c; second-stores = λ c p. cc (refused-stores-none t b e c) }
 
 -- where the first action stores, the second neither reads nor stores
 abbrev Clear : Action → Action → Type 0

@@ -7,7 +7,7 @@ use mathlib.Core.List.{List}
 use lib.Dec.{ltb}
 use lib.ListN.{length}
 use Rattle.logic.proofs.Choice.{choice, by-cases, either}
-use Rattle.sequence.specs.Model.{Lawful, next, accepts, touches, results}
+use Rattle.sequence.specs.Model.{Lawful, next, accepts, storesIn, touches, results}
 use Rattle.sequence.proofs.Laws.{results-by-real}
 use Rattle.cdi_command.specs.Payload.{responseBufferMin}
 use Rattle.cdi_model.specs.Cells.{nv, working, lineMask, latchMask, txPower, controlSource, interruptMask, setting, events, flags, hardwarePower, hardwareLineMask, hardwareLatchMask, Cell, stored, single, hasWorking, isKey, isCell, same}
@@ -93,18 +93,27 @@ unfolding decide
 decide-framed s t powerUp e = rw e
 decide-framed s t (command block response) e = rw e
 
+-- ---- refused steps
 -- a refusal reads no cell and stores in none, ...
-refused-none : (d : Decision) → isAccepted d ≡ false → (c : Cell) → reads d c || stores d c ≡ false
+refusal-none : (d : Decision) → isAccepted d ≡ false → (c : Cell) → (reads d c ≡ false) × (stores d c ≡ false)
 unfolding reads stores
-refused-none (refuse n) e c = refl
-refused-none (execute payload a) e c = cc
-refused-none executePowerUp e c = cc
+refusal-none (refuse n) e c = (refl, refl)
+refusal-none (execute payload a) e c = (cc, cc)
+refusal-none executePowerUp e c = (cc, cc)
 
--- ... and so does a step that is not accepted
+-- ... so a step that is not accepted stores in no cell, as the theorem asks, ...
+pub refused-stores-none : (s : Cells) (x : Step) → accepts model s x ≡ false → (c : Cell) → storesIn model s x c ≡ false
+refused-stores-none s x e c = refusal-none (decide s x) e c .1
+
+-- ... and reads none, whatever it is refused for: that is this table's own
+pub refused-reads-none : (s : Cells) (x : Step) → accepts model s x ≡ false → (c : Cell) → reads (decide s x) c ≡ false
+refused-reads-none s x e c = refusal-none (decide s x) e c .0
+
+-- both at once
 pub refused-touches-none : (s : Cells) (x : Step) → accepts model s x ≡ false → (c : Cell) → touches model s x c ≡ false
-refused-touches-none s x e c = refused-none (decide s x) e c
+refused-touches-none s x e c = rw (refused-reads-none s x e c, refused-stores-none s x e c)
 
--- the model is lawful, with validity as all that a decision knows of other cells
+-- ---- the model is lawful, with validity as all that a decision knows of other cells
 pub lawful : Lawful model
 lawful = record {
   class = isValid;
@@ -116,7 +125,7 @@ lawful = record {
         ap₂ (resultOf x) d (ap (valueRead t) d ∙ value-framed s t (decide s x) (step-checked s x) agree),
         λ c p. ap (λ (d : Decision). gives t d c) d ∙ gives-framed s t (decide s x) agree c p,
       );
-  refused-touches-none = refused-touches-none;
+  refused-stores-none = refused-stores-none;
 }
 
 -- ---- real cells

@@ -1,7 +1,8 @@
 -- Neighbours that are apart, and two that are not, as blocks on the factory cells: the exchange is about steps that there are.
 -- Assumes nothing.
 use Prim.Native.Nat.{ℕ, _+_}
-use mathlib.Core.Path.{refl}
+use mathlib.Core.Path.{_≡_, refl}
+use mathlib.Core.Bool.{false}
 use mathlib.Core.List.{List, [], _∷_}
 use lib.ListN.{length, replicate}
 use Rattle.logic.specs.Lists.{allBelow}
@@ -10,12 +11,13 @@ use Rattle.cdi_frame.specs.Frame.{wakes, lengthAt, readFrame}
 use Rattle.cdi_item.specs.Items.{items, itemIn, itemOf}
 use Rattle.cdi_item.specs.Values.{acceptedValue}
 use Rattle.cdi_command.specs.Command.{select, commandOn, validateItem, isServed, isHeadLengthRight, validatePayload}
-use Rattle.cdi_model.specs.Cells.{nv, working, txPower, messageSelect, setting, stored}
+use Rattle.cdi_model.specs.Cells.{nv, working, txPower, messageSelect, setting, Cell, stored}
 use Rattle.cdi_model.specs.Step.{Step, powerUp, command}
 use Rattle.cdi_model.specs.Action.{read, readNv, actionOf}
 use Rattle.cdi_model.specs.Table.{stores}
 use Rattle.cdi_model.specs.Model.{model, isValid, decide, decidePayload, decideBlock, gives}
-use Rattle.cdi_model.proofs.Apart.{refused-first, two-reads, two-writes, status-and-write, status-not-apart}
+use Rattle.cdi_model.proofs.Lawful.{refused-reads-none}
+use Rattle.cdi_model.proofs.Apart.{refused-first, refused-second, two-reads, two-writes, status-and-write, status-not-apart}
 use Rattle.cdi_model.specs.Factory.{factoryCells}
 
 -- a payload's frame with a response buffer
@@ -28,9 +30,14 @@ readStatusBlock = block (0x01 ∷ 0x23 ∷ [])
 abbrev writeBlock : ℕ → ℕ → Step
 writeBlock item byte = block (0x02 ∷ item ∷ byte ∷ [])
 
+abbrev refusedBlock : Step
+refusedBlock = writeBlock 0x15 0x07
+
 pub record Witnesses : Type 0 where
-  -- a Write of 15 with 07, which is refused, and a power-up
-  pub refused-and-power-up : Apart model factoryCells (writeBlock 0x15 0x07) powerUp
+  -- a Write of 15 with 07, which is refused: it reads no cell, and it is apart from a power-up behind it and before it
+  pub refused-reads-no-cell : (c : Cell) → model .reads (decide factoryCells refusedBlock) c ≡ false
+  pub refused-and-power-up : Apart model factoryCells refusedBlock powerUp
+  pub power-up-and-refused : Apart model factoryCells powerUp refusedBlock
   -- a Read and a Read NV of 15
   pub reads : Apart model factoryCells (block (0x01 ∷ 0x15 ∷ [])) (block (0x03 ∷ 0x15 ∷ []))
   -- Writes of 13 and of 15
@@ -43,7 +50,9 @@ pub witnesses : Witnesses
 unfolding items itemIn itemOf acceptedValue wakes lengthAt readFrame select commandOn validateItem isServed isHeadLengthRight validatePayload
     actionOf stores allBelow isValid decide decidePayload decideBlock gives
 witnesses = record {
-  refused-and-power-up = refused-first factoryCells (writeBlock 0x15 0x07) powerUp refl;
+  refused-reads-no-cell = refused-reads-none factoryCells refusedBlock refl;
+  refused-and-power-up = refused-first factoryCells refusedBlock powerUp refl;
+  power-up-and-refused = refused-second factoryCells powerUp refusedBlock refl;
   reads =
       two-reads factoryCells (block (0x01 ∷ 0x15 ∷ [])) (block (0x03 ∷ 0x15 ∷ [])) (0x01 ∷ 0x15 ∷ []) (0x03 ∷ 0x15 ∷ [])
       (read (stored working (setting messageSelect))) (readNv (stored nv (setting messageSelect))) refl refl refl refl;
