@@ -7,7 +7,7 @@ use mathlib.Core.Bool.{Bool, true, false, _&&_, _||_, and-false, and-eq-true-iff
 use mathlib.Core.List.{List}
 use Rattle.logic.proofs.Choice.{by-cases, neither}
 use Rattle.sequence.specs.Model.{Apart, next, accepts}
-use Rattle.cdi_model.specs.Cells.{working, controlSource, messageSelect, Key, setting, Cell, stored, isCell, same, sameKey}
+use Rattle.cdi_model.specs.Cells.{working, controlSource, messageSelect, Key, setting, Cell, copyOf, isCell, same, sameKey}
 use Rattle.cdi_model.specs.Step.{Step}
 use Rattle.cdi_model.specs.Action.{Action, read, readNv, readStatus, write, program, setDefault, eraseAll}
 use Rattle.cdi_model.specs.Table.{Decision, execute, actionReads, actionStores, reads, stores}
@@ -75,18 +75,18 @@ module _ (s : Cells) (a b : Step) (p q : List ℕ) where
       → sameKey k l ≡ false → Apart model s a b
   two-writes k l v w first second n =
       apart s a b p q (write k v) (write l w) first second
-      (λ c e. by-cases (same c (stored working l)) (λ z. one-key c e z) (λ z. z))
-      (λ c e. by-cases (same c (stored working k)) (λ z. one-key c z e) (λ z. z))
+      (λ c e. by-cases (same c (copyOf working l)) (λ z. one-key c e z) (λ z. z))
+      (λ c e. by-cases (same c (copyOf working k)) (λ z. one-key c z e) (λ z. z))
     where
-      one-key : {P : Type 0} (c : Cell) → same c (stored working k) ≡ true → same c (stored working l) ≡ true → P
+      one-key : {P : Type 0} (c : Cell) → same c (copyOf working k) ≡ true → same c (copyOf working l) ≡ true → P
       one-key c e z =
-          let i : k ≡ l = cc (same-eq c (stored working k) e, same-eq c (stored working l) z) in
+          let i : k ≡ l = cc (same-eq c (copyOf working k) e, same-eq c (copyOf working l) z) in
           absurd (true≢false (sym (rw i (key-refl l)) ∙ n))
 
   module _ (v : List ℕ) where
     -- the status does not read item 15
     clear : Clear (write (setting messageSelect) v) readStatus
-    clear c e = rw (same-eq c (stored working (setting messageSelect)) e)
+    clear c e = rw (same-eq c (copyOf working (setting messageSelect)) e)
 
     -- so the status and a Write of item 15 are apart, in both orders, ...
     pub status-and-write : decide s a ≡ execute p readStatus → decide (next model s a) b ≡ execute q (write (setting messageSelect) v)
@@ -102,12 +102,12 @@ module _ (s : Cells) (a b : Step) (p q : List ℕ) where
         → Apart model s a b → ⊥
     unfolding reads stores
     status-not-apart first second h =
-        let c : Cell = stored working (setting controlSource) in
+        let c : Cell = copyOf working (setting controlSource) in
         true≢false (sym (rw first) ∙ h .second-stores c (rw second))
 
     pub write-not-apart : decide s a ≡ execute p (write (setting controlSource) v) → decide (next model s a) b ≡ execute q readStatus
         → Apart model s a b → ⊥
     unfolding reads stores
     write-not-apart first second h =
-        let c : Cell = stored working (setting controlSource) in
+        let c : Cell = copyOf working (setting controlSource) in
         true≢false (sym (rw second) ∙ h .first-stores c (rw first))

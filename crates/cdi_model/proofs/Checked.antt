@@ -25,7 +25,7 @@ use Rattle.cdi_command.specs.declared.Command.the-variants.{Read, ReadIndexed, 
 use Rattle.cdi_command.specs.Command.{validatePayload}
 use Rattle.cdi_command.specs.Payload.{valueIn, fits, WellFormed, responseBufferMin}
 use Rattle.cdi_command.proofs.Accepted.{accepted-well-formed}
-use Rattle.cdi_model.specs.Cells.{Key, setting, input, slot, address, stored, hasWorking, readCopy, isKey, isCell}
+use Rattle.cdi_model.specs.Cells.{Key, setting, input, slot, address, copyOf, hasWorking, readCopy, isKey, isCell}
 use Rattle.cdi_model.specs.Values.{accepted}
 use Rattle.cdi_model.specs.Step.{Step, powerUp, command}
 use Rattle.cdi_model.specs.Action.{Source, held, one, status, Action, read, readNv, readStatus, write, program, setDefault, eraseAll, keyOf, sourceOf, rowOf, readFrom, readNvFrom, actionOf}
@@ -53,7 +53,7 @@ Checked eraseAll = Unit {0}
 
 -- ---- reads
 -- the copy that Read gives is a cell
-read-cell : (k : Key) → isKey k ≡ true → isCell (stored (readCopy k) k) ≡ true
+read-cell : (k : Key) → isKey k ≡ true → isCell (copyOf (readCopy k) k) ≡ true
 read-cell (setting s) e = refl
 read-cell (input n) e = and-eq-true-iff _ _ .1 (e, refl)
 read-cell (slot i) e = e

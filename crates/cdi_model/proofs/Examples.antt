@@ -15,7 +15,7 @@ use Rattle.cdi_item.specs.Items.{items, itemIn, itemOf}
 use Rattle.cdi_item.specs.Values.{acceptedValue}
 use Rattle.cdi_command.specs.Payload.{responseBufferMin}
 use Rattle.cdi_command.specs.Command.{select, commandOn, validateItem, isServed, isHeadLengthRight, validatePayload}
-use Rattle.cdi_model.specs.Cells.{nv, working, txPower, controlSource, messageSelect, interruptMask, setting, input, slot, Single, name, firmware, serial, lines, rssi, ladj, events, flags, hardwarePower, hardwareLineMask, hardwareLatchMask, Cell, stored, single, same}
+use Rattle.cdi_model.specs.Cells.{nv, working, txPower, controlSource, messageSelect, interruptMask, setting, input, slot, Single, name, firmware, serial, lines, rssi, ladj, events, flags, hardwarePower, hardwareLineMask, hardwareLatchMask, Cell, copyOf, single, same}
 use Rattle.cdi_model.specs.Values.{upToZero}
 use Rattle.cdi_model.specs.Factory.{factoryCells}
 use Rattle.cdi_model.specs.Step.{Step, powerUp, command, StepResult, poweredUp, responded}
@@ -44,7 +44,7 @@ usedSingle hardwareLineMask = 0x22 ∷ []
 usedSingle hardwareLatchMask = 0x33 ∷ []
 
 abbrev pub usedCells : Cells
-usedCells (stored copy k) = factoryWith (stored working (setting interruptMask)) (0x02 ∷ []) (stored copy k)
+usedCells (copyOf copy k) = factoryWith (copyOf working (setting interruptMask)) (0x02 ∷ []) (copyOf copy k)
 usedCells (single x) = usedSingle x
 
 -- the longest name
@@ -55,31 +55,31 @@ namedCells = factoryWith (single name) (replicate 16 0x41 ++ 0x00 ∷ [])
 abbrev pub validStates : List Cells
 validStates =
     namedCells ∷
-    factoryWith (stored nv (setting txPower)) (0xEC ∷ []) ∷
-    factoryWith (stored working (setting txPower)) (0x0A ∷ []) ∷
-    factoryWith (stored nv (setting controlSource)) (0x1F ∷ []) ∷
-    factoryWith (stored working (setting messageSelect)) (0x06 ∷ []) ∷
-    factoryWith (stored nv (input 1)) (0x04 ∷ 0x10 ∷ 0x01 ∷ 0x80 ∷ 0x00 ∷ []) ∷
-    factoryWith (stored working (input 2)) (0x07 ∷ 0x01 ∷ 0x01 ∷ 0x7F ∷ 0xFF ∷ []) ∷
-    factoryWith (stored nv (input 2)) (0xFE ∷ 0x01 ∷ 0x00 ∷ 0x00 ∷ 0x00 ∷ []) ∷
-    factoryWith (stored nv (slot 39)) (0x00 ∷ 0x00 ∷ 0x00 ∷ 0x01 ∷ 0x01 ∷ []) ∷
+    factoryWith (copyOf nv (setting txPower)) (0xEC ∷ []) ∷
+    factoryWith (copyOf working (setting txPower)) (0x0A ∷ []) ∷
+    factoryWith (copyOf nv (setting controlSource)) (0x1F ∷ []) ∷
+    factoryWith (copyOf working (setting messageSelect)) (0x06 ∷ []) ∷
+    factoryWith (copyOf nv (input 1)) (0x04 ∷ 0x10 ∷ 0x01 ∷ 0x80 ∷ 0x00 ∷ []) ∷
+    factoryWith (copyOf working (input 2)) (0x07 ∷ 0x01 ∷ 0x01 ∷ 0x7F ∷ 0xFF ∷ []) ∷
+    factoryWith (copyOf nv (input 2)) (0xFE ∷ 0x01 ∷ 0x00 ∷ 0x00 ∷ 0x00 ∷ []) ∷
+    factoryWith (copyOf nv (slot 39)) (0x00 ∷ 0x00 ∷ 0x00 ∷ 0x01 ∷ 0x01 ∷ []) ∷
     factoryWith (single flags) (0x34 ∷ []) ∷
     []
 
 abbrev pub invalidStates : List Cells
 invalidStates =
     factoryWith (single name) (replicate 17 0x41) ∷
-    factoryWith (stored nv (setting txPower)) (0xEB ∷ []) ∷
-    factoryWith (stored working (setting txPower)) (0x0B ∷ []) ∷
-    factoryWith (stored nv (setting controlSource)) (0x20 ∷ []) ∷
-    factoryWith (stored working (setting messageSelect)) (0x07 ∷ []) ∷
-    factoryWith (stored nv (input 1)) (0x03 ∷ 0x10 ∷ 0x01 ∷ 0x80 ∷ 0x00 ∷ []) ∷
-    factoryWith (stored nv (input 1)) (0x04 ∷ 0x11 ∷ 0x01 ∷ 0x80 ∷ 0x00 ∷ []) ∷
-    factoryWith (stored nv (input 1)) (0x04 ∷ 0x10 ∷ 0x02 ∷ 0x80 ∷ 0x00 ∷ []) ∷
-    factoryWith (stored working (input 2)) (0x08 ∷ 0x01 ∷ 0x01 ∷ 0x7F ∷ 0xFF ∷ []) ∷
-    factoryWith (stored working (input 2)) (0x07 ∷ 0x00 ∷ 0x01 ∷ 0x7F ∷ 0xFF ∷ []) ∷
-    factoryWith (stored nv (input 2)) (0xFD ∷ 0x01 ∷ 0x00 ∷ 0x00 ∷ 0x00 ∷ []) ∷
-    factoryWith (stored nv (slot 39)) (0x00 ∷ 0x00 ∷ 0x00 ∷ 0x00 ∷ 0x01 ∷ []) ∷
+    factoryWith (copyOf nv (setting txPower)) (0xEB ∷ []) ∷
+    factoryWith (copyOf working (setting txPower)) (0x0B ∷ []) ∷
+    factoryWith (copyOf nv (setting controlSource)) (0x20 ∷ []) ∷
+    factoryWith (copyOf working (setting messageSelect)) (0x07 ∷ []) ∷
+    factoryWith (copyOf nv (input 1)) (0x03 ∷ 0x10 ∷ 0x01 ∷ 0x80 ∷ 0x00 ∷ []) ∷
+    factoryWith (copyOf nv (input 1)) (0x04 ∷ 0x11 ∷ 0x01 ∷ 0x80 ∷ 0x00 ∷ []) ∷
+    factoryWith (copyOf nv (input 1)) (0x04 ∷ 0x10 ∷ 0x02 ∷ 0x80 ∷ 0x00 ∷ []) ∷
+    factoryWith (copyOf working (input 2)) (0x08 ∷ 0x01 ∷ 0x01 ∷ 0x7F ∷ 0xFF ∷ []) ∷
+    factoryWith (copyOf working (input 2)) (0x07 ∷ 0x00 ∷ 0x01 ∷ 0x7F ∷ 0xFF ∷ []) ∷
+    factoryWith (copyOf nv (input 2)) (0xFD ∷ 0x01 ∷ 0x00 ∷ 0x00 ∷ 0x00 ∷ []) ∷
+    factoryWith (copyOf nv (slot 39)) (0x00 ∷ 0x00 ∷ 0x00 ∷ 0x00 ∷ 0x01 ∷ []) ∷
     factoryWith (single flags) (0x05 ∷ []) ∷
     factoryWith (single flags) (0x08 ∷ []) ∷
     factoryWith (single flags) (0x40 ∷ []) ∷

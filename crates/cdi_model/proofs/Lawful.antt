@@ -10,7 +10,7 @@ use Rattle.logic.proofs.Choice.{choice, by-cases, either}
 use Rattle.sequence.specs.Model.{Lawful, next, accepts, storesIn, touches, results}
 use Rattle.sequence.proofs.Laws.{results-by-real}
 use Rattle.cdi_command.specs.Payload.{responseBufferMin}
-use Rattle.cdi_model.specs.Cells.{nv, working, lineMask, latchMask, txPower, controlSource, interruptMask, setting, events, flags, hardwarePower, hardwareLineMask, hardwareLatchMask, Cell, stored, single, hasWorking, isKey, isCell, same}
+use Rattle.cdi_model.specs.Cells.{nv, working, lineMask, latchMask, txPower, controlSource, interruptMask, setting, events, flags, hardwarePower, hardwareLineMask, hardwareLatchMask, Cell, copyOf, single, hasWorking, isKey, isCell, same}
 use Rattle.cdi_model.specs.Step.{Step, powerUp, command}
 use Rattle.cdi_model.specs.Action.{Action, read, readNv, readStatus, write, program, setDefault, eraseAll}
 use Rattle.cdi_model.specs.Table.{Decision, refuse, execute, executePowerUp, isAccepted, inCopy, actionReads, actionStores, powerUpStores, reads, stores}
@@ -59,11 +59,11 @@ module _ (s t : Cells) where
         h (single hardwarePower) refl,
         h (single hardwareLineMask) refl,
         h (single hardwareLatchMask) refl,
-        h (stored working (setting lineMask)) refl,
-        h (stored working (setting latchMask)) refl,
-        h (stored working (setting txPower)) refl,
-        h (stored working (setting controlSource)) refl,
-        h (stored working (setting interruptMask)) refl,
+        h (copyOf working (setting lineMask)) refl,
+        h (copyOf working (setting latchMask)) refl,
+        h (copyOf working (setting txPower)) refl,
+        h (copyOf working (setting controlSource)) refl,
+        h (copyOf working (setting interruptMask)) refl,
       )
   action-value (write j v) k h = refl
   action-value (program j v) k h = refl
@@ -82,9 +82,9 @@ module _ (s t : Cells) where
   unfolding gives reads stores
   gives-framed (refuse n) h c e = refl
   gives-framed (execute payload a) h c e = refl
-  gives-framed executePowerUp h (stored nv k) e = cc (and-false (isKey k))
-  gives-framed executePowerUp h (stored working k) e =
-      h (stored nv k) (and-eq-true-iff (isKey k && hasWorking k) (powerUpStores (stored working k)) .0 e .0)
+  gives-framed executePowerUp h (copyOf nv k) e = cc (and-false (isKey k))
+  gives-framed executePowerUp h (copyOf working k) e =
+      h (copyOf nv k) (and-eq-true-iff (isKey k && hasWorking k) (powerUpStores (copyOf working k)) .0 e .0)
   gives-framed executePowerUp h (single x) e = refl
 
 -- a decision knows no more of the cells than their validity

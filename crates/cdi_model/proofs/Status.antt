@@ -8,7 +8,7 @@ use borrow.Author.Tests.{eqb-true}
 use lib.Bits.{bitAnd, bitOr, and-block, and-high, and-mask, or-disjoint}
 use lib.Dec.{eqb, leb}
 use Rattle.cdi_item.specs.Bits.{eventFlag, modeMask, modeMax, flagsZero}
-use Rattle.cdi_model.specs.Cells.{interruptMask, setting, working, stored, events, flags, single}
+use Rattle.cdi_model.specs.Cells.{interruptMask, setting, working, copyOf, events, flags, single}
 use Rattle.cdi_model.specs.Values.{byteOf, isSet, acceptedFlags}
 use Rattle.cdi_model.specs.Model.{Cells, isValid, statusOf}
 use Rattle.cdi_model.proofs.Validity.{valid-takes}
@@ -39,7 +39,7 @@ told f false a =
     rw unset
 
 pub status-bit-7 : (s : Cells) → isValid s ≡ true →
-    isSet eventFlag (byteOf (statusOf s)) ≡ isSet (byteOf (s (stored working (setting interruptMask)))) (byteOf (s (single events)))
+    isSet eventFlag (byteOf (statusOf s)) ≡ isSet (byteOf (s (copyOf working (setting interruptMask)))) (byteOf (s (single events)))
 status-bit-7 s v =
-    told (byteOf (s (single flags))) (isSet (byteOf (s (stored working (setting interruptMask)))) (byteOf (s (single events))))
+    told (byteOf (s (single flags))) (isSet (byteOf (s (copyOf working (setting interruptMask)))) (byteOf (s (single events))))
     (valid-takes s v (single flags) refl)

@@ -15,7 +15,7 @@ use Rattle.refusal.specs.Refusal.{valueNotAccepted}
 use Rattle.cdi_item.specs.Items.{items, itemIn, itemOf}
 use Rattle.cdi_item.specs.Values.{acceptedValue}
 use Rattle.cdi_command.specs.Command.{select, commandOn, validateItem, isServed, isHeadLengthRight, validatePayload}
-use Rattle.cdi_model.specs.Cells.{nv, working, lineMask, latchMask, txPower, controlSource, messageSelect, interruptMask, setting, input, slot, address, name, firmware, serial, lines, rssi, ladj, events, flags, hardwarePower, hardwareLineMask, hardwareLatchMask, Cell, stored, single, Key, hasWorking, isKey, isCell, same}
+use Rattle.cdi_model.specs.Cells.{nv, working, lineMask, latchMask, txPower, controlSource, messageSelect, interruptMask, setting, input, slot, address, name, firmware, serial, lines, rssi, ladj, events, flags, hardwarePower, hardwareLineMask, hardwareLatchMask, Cell, copyOf, single, Key, hasWorking, isKey, isCell, same}
 use Rattle.cdi_model.specs.Values.{upToZero}
 use Rattle.cdi_model.specs.Action.{Action, write, program, actionOf}
 use Rattle.cdi_model.specs.Table.{Decision, refuse, execute, executePowerUp, isAccepted, reads, stores}
@@ -35,32 +35,32 @@ pub cells-are : (all isCell everyCell ≡ true) × (allApart everyCell ≡ true)
 unfolding everyCell
 cells-are = (refl, refl)
 
-slots-in : allBelow 40 (λ i. isIn (stored nv (slot i)) everyCell) ≡ true
+slots-in : allBelow 40 (λ i. isIn (copyOf nv (slot i)) everyCell) ≡ true
 unfolding everyCell allBelow
 slots-in = refl
 
 -- ... and no one missing
 pub every-cell : (c : Cell) → isCell c ≡ true → isIn c everyCell ≡ true
 unfolding everyCell
-every-cell (stored nv (setting lineMask)) e = refl
-every-cell (stored nv (setting latchMask)) e = refl
-every-cell (stored nv (setting txPower)) e = refl
-every-cell (stored nv (setting controlSource)) e = refl
-every-cell (stored nv (setting messageSelect)) e = refl
-every-cell (stored nv (setting interruptMask)) e = refl
-every-cell (stored nv (input n)) e = each-input (λ i. isIn (stored nv (input i)) everyCell ≡ true) refl refl n e
-every-cell (stored nv (slot i)) e = all-at 40 (λ i. isIn (stored nv (slot i)) everyCell) slots-in i (ltb-true i 40 e)
-every-cell (stored nv address) e = refl
-every-cell (stored working (setting lineMask)) e = refl
-every-cell (stored working (setting latchMask)) e = refl
-every-cell (stored working (setting txPower)) e = refl
-every-cell (stored working (setting controlSource)) e = refl
-every-cell (stored working (setting messageSelect)) e = refl
-every-cell (stored working (setting interruptMask)) e = refl
-every-cell (stored working (input n)) e =
-    each-input (λ i. isIn (stored working (input i)) everyCell ≡ true) refl refl n (and-eq-true-iff (isKey (input n)) true .0 e .0)
-every-cell (stored working (slot i)) e = cc (and-eq-true-iff (isKey (slot i)) (hasWorking (slot i)) .0 e .1)
-every-cell (stored working address) e = cc
+every-cell (copyOf nv (setting lineMask)) e = refl
+every-cell (copyOf nv (setting latchMask)) e = refl
+every-cell (copyOf nv (setting txPower)) e = refl
+every-cell (copyOf nv (setting controlSource)) e = refl
+every-cell (copyOf nv (setting messageSelect)) e = refl
+every-cell (copyOf nv (setting interruptMask)) e = refl
+every-cell (copyOf nv (input n)) e = each-input (λ i. isIn (copyOf nv (input i)) everyCell ≡ true) refl refl n e
+every-cell (copyOf nv (slot i)) e = all-at 40 (λ i. isIn (copyOf nv (slot i)) everyCell) slots-in i (ltb-true i 40 e)
+every-cell (copyOf nv address) e = refl
+every-cell (copyOf working (setting lineMask)) e = refl
+every-cell (copyOf working (setting latchMask)) e = refl
+every-cell (copyOf working (setting txPower)) e = refl
+every-cell (copyOf working (setting controlSource)) e = refl
+every-cell (copyOf working (setting messageSelect)) e = refl
+every-cell (copyOf working (setting interruptMask)) e = refl
+every-cell (copyOf working (input n)) e =
+    each-input (λ i. isIn (copyOf working (input i)) everyCell ≡ true) refl refl n (and-eq-true-iff (isKey (input n)) true .0 e .0)
+every-cell (copyOf working (slot i)) e = cc (and-eq-true-iff (isKey (slot i)) (hasWorking (slot i)) .0 e .1)
+every-cell (copyOf working address) e = cc
 every-cell (single name) e = refl
 every-cell (single firmware) e = refl
 every-cell (single serial) e = refl

@@ -11,14 +11,14 @@ use lib.Dec.{eqb, leb}
 use Rattle.logic.specs.Lists.{allBelow, hasZero}
 use Rattle.logic.proofs.Below.{all-at, all-of}
 use Rattle.logic.proofs.Choice.{choice, by-cases}
-use Rattle.cdi_model.specs.Cells.{Copy, nv, working, lineMask, latchMask, txPower, controlSource, messageSelect, interruptMask, Key, setting, input, slot, address, name, flags, Cell, stored, single, hasWorking, isKey, isCell, sameSingle}
+use Rattle.cdi_model.specs.Cells.{Copy, nv, working, lineMask, latchMask, txPower, controlSource, messageSelect, interruptMask, Key, setting, input, slot, address, name, flags, Cell, copyOf, single, hasWorking, isKey, isCell, sameSingle}
 use Rattle.cdi_model.specs.Values.{byteOf, accepted, acceptedFlags}
 use Rattle.cdi_model.specs.Model.{Cells, holdsAccepted, validCopy, isValid}
 use Rattle.cdi_model.proofs.Cells.{single-eq}
 
 -- the value is one that the cell accepts
 abbrev pub takes : Cell → List ℕ → Bool
-takes (stored copy k) v = accepted k v
+takes (copyOf copy k) v = accepted k v
 takes (single x) v = cond (sameSingle x name) (hasZero v) (cond (sameSingle x flags) (acceptedFlags (byteOf v)) true)
 
 -- every cell holds such a value
@@ -77,11 +77,11 @@ module _ (s : Cells) where
 
   -- in a valid state every cell holds a value that it accepts, ...
   pub valid-takes : isValid s ≡ true → AllTake s
-  valid-takes e (stored nv (setting x)) h = copy-takes s nv (valid-parts .0 e .1) (setting x) h refl
-  valid-takes e (stored nv (input n)) h = copy-takes s nv (valid-parts .0 e .1) (input n) h refl
-  valid-takes e (stored nv (slot i)) h = all-at 40 (λ i. holdsAccepted s nv (slot i)) (valid-parts .0 e .3) i (ltb-true i 40 h)
-  valid-takes e (stored nv address) h = refl
-  valid-takes e (stored working k) h =
+  valid-takes e (copyOf nv (setting x)) h = copy-takes s nv (valid-parts .0 e .1) (setting x) h refl
+  valid-takes e (copyOf nv (input n)) h = copy-takes s nv (valid-parts .0 e .1) (input n) h refl
+  valid-takes e (copyOf nv (slot i)) h = all-at 40 (λ i. holdsAccepted s nv (slot i)) (valid-parts .0 e .3) i (ltb-true i 40 h)
+  valid-takes e (copyOf nv address) h = refl
+  valid-takes e (copyOf working k) h =
       let p = and-eq-true-iff (isKey k) (hasWorking k) .0 h in
       copy-takes s working (valid-parts .0 e .2) k (p .0) (p .1)
   valid-takes e (single x) h =
@@ -93,9 +93,9 @@ module _ (s : Cells) where
   takes-valid h =
       valid-parts .1 (
         h (single name) refl,
-        copy nv (λ k e. h (stored nv k) (and-eq-true-iff (isKey k) (hasWorking k) .0 e .0)),
-        copy working (λ k. h (stored working k)),
-        all-of 40 (λ i. holdsAccepted s nv (slot i)) (λ i p. h (stored nv (slot i)) (lt-ltb i 40 p)),
+        copy nv (λ k e. h (copyOf nv k) (and-eq-true-iff (isKey k) (hasWorking k) .0 e .0)),
+        copy working (λ k. h (copyOf working k)),
+        all-of 40 (λ i. holdsAccepted s nv (slot i)) (λ i p. h (copyOf nv (slot i)) (lt-ltb i 40 p)),
         h (single flags) refl,
       )
     where

@@ -11,7 +11,7 @@ use Rattle.cdi_frame.specs.Frame.{wakes, lengthAt, readFrame}
 use Rattle.cdi_item.specs.Items.{items, itemIn, itemOf}
 use Rattle.cdi_item.specs.Values.{acceptedValue}
 use Rattle.cdi_command.specs.Command.{select, commandOn, validateItem, isServed, isHeadLengthRight, validatePayload}
-use Rattle.cdi_model.specs.Cells.{nv, working, txPower, messageSelect, setting, Cell, stored}
+use Rattle.cdi_model.specs.Cells.{nv, working, txPower, messageSelect, setting, Cell, copyOf}
 use Rattle.cdi_model.specs.Step.{Step, powerUp, command}
 use Rattle.cdi_model.specs.Action.{read, readNv, actionOf}
 use Rattle.cdi_model.specs.Table.{stores}
@@ -55,7 +55,7 @@ witnesses = record {
   power-up-and-refused = refused-second factoryCells powerUp refusedBlock refl;
   reads =
       two-reads factoryCells (block (0x01 ∷ 0x15 ∷ [])) (block (0x03 ∷ 0x15 ∷ [])) (0x01 ∷ 0x15 ∷ []) (0x03 ∷ 0x15 ∷ [])
-      (read (stored working (setting messageSelect))) (readNv (stored nv (setting messageSelect))) refl refl refl refl;
+      (read (copyOf working (setting messageSelect))) (readNv (copyOf nv (setting messageSelect))) refl refl refl refl;
   writes =
       two-writes factoryCells (writeBlock 0x13 0xEC) (writeBlock 0x15 0x03) (0x02 ∷ 0x13 ∷ 0xEC ∷ []) (0x02 ∷ 0x15 ∷ 0x03 ∷ [])
       (setting txPower) (setting messageSelect) (0xEC ∷ []) (0x03 ∷ []) refl refl refl;

@@ -9,7 +9,7 @@ use Rattle.cdi_command.specs.declared.Index.the-variants.{Slot, Input}
 use Rattle.cdi_command.specs.declared.Command.{Command}
 use Rattle.cdi_command.specs.declared.Command.the-variants.{Read, ReadIndexed, ReadNv, ReadNvIndexed, Write, WriteIndexed, Program, ProgramIndexed, SetDefault, EraseAll}
 use Rattle.cdi_command.specs.Payload.{valueIn}
-use Rattle.cdi_model.specs.Cells.{nv, lineMask, latchMask, txPower, controlSource, messageSelect, interruptMask, Key, setting, input, slot, address, Single, name, firmware, serial, lines, rssi, ladj, events, Cell, stored, single, readCopy}
+use Rattle.cdi_model.specs.Cells.{nv, lineMask, latchMask, txPower, controlSource, messageSelect, interruptMask, Key, setting, input, slot, address, Single, name, firmware, serial, lines, rssi, ladj, events, Cell, copyOf, single, readCopy}
 
 -- where a Read answers from: a key's copy, a cell that no command stores in, or the status, which is no cell
 pub data Source : Type 0 where
@@ -54,13 +54,13 @@ rowOf (Slot i) = slot (i .0)
 rowOf (Input n) = input (n .0)
 
 abbrev pub readFrom : Source → Action
-readFrom (held k) = read (stored (readCopy k) k)
+readFrom (held k) = read (copyOf (readCopy k) k)
 readFrom (one x) = read (single x)
 readFrom status = readStatus
 
 -- the status has no Read NV
 abbrev pub readNvFrom : Source → Action
-readNvFrom (held k) = readNv (stored nv k)
+readNvFrom (held k) = readNv (copyOf nv k)
 readNvFrom (one x) = readNv (single x)
 readNvFrom status = readStatus
 

@@ -22,9 +22,9 @@ pub data Key : Type 0 where
 pub data Single : Type 0 where
   name firmware serial lines rssi ladj events flags hardwarePower hardwareLineMask hardwareLatchMask : Single
 
--- 01's "cell"
+-- 01's "cell": a copy of what has a key, or one that no command stores in
 pub data Cell : Type 0 where
-  stored : Copy → Key → Cell
+  copyOf : Copy → Key → Cell
   single : Single → Cell
 
 -- settings and inputs have a working copy; a slot is one cell, and so is the address
@@ -46,8 +46,8 @@ isKey (slot i) = isSlotIndex i
 isKey address = true
 
 abbrev pub isCell : Cell → Bool
-isCell (stored nv k) = isKey k
-isCell (stored working k) = isKey k && hasWorking k
+isCell (copyOf nv k) = isKey k
+isCell (copyOf working k) = isKey k && hasWorking k
 isCell (single x) = true
 
 -- ---- when two names name one cell: each kind of name has its number
@@ -97,7 +97,7 @@ abbrev pub sameSingle : Single → Single → Bool
 sameSingle x y = eqb (singleNumber x) (singleNumber y)
 
 abbrev pub same : Cell → Cell → Bool
-same (stored c j) (stored d k) = sameCopy c d && sameKey j k
-same (stored c j) (single y) = false
-same (single x) (stored d k) = false
+same (copyOf c j) (copyOf d k) = sameCopy c d && sameKey j k
+same (copyOf c j) (single y) = false
+same (single x) (copyOf d k) = false
 same (single x) (single y) = sameSingle x y

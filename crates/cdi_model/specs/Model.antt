@@ -16,7 +16,7 @@ use Rattle.cdi_item.specs.Items.{slotCount}
 use Rattle.cdi_command.specs.declared.Command.{Command}
 use Rattle.cdi_command.specs.Command.{validatePayload}
 use Rattle.cdi_command.specs.Payload.{readResponse, readNvResponse, ackResponse, noError, responseBufferMin}
-use Rattle.cdi_model.specs.Cells.{Copy, nv, working, lineMask, latchMask, txPower, controlSource, messageSelect, interruptMask, Key, setting, input, slot, Single, name, firmware, serial, lines, rssi, ladj, events, flags, hardwarePower, hardwareLineMask, hardwareLatchMask, Cell, stored, single}
+use Rattle.cdi_model.specs.Cells.{Copy, nv, working, lineMask, latchMask, txPower, controlSource, messageSelect, interruptMask, Key, setting, input, slot, Single, name, firmware, serial, lines, rssi, ladj, events, flags, hardwarePower, hardwareLineMask, hardwareLatchMask, Cell, copyOf, single}
 use Rattle.cdi_model.specs.Values.{byteOf, accepted, acceptedFlags, defaultValue, emptySlot, noRssi, upToZero, statusBytes}
 use Rattle.cdi_model.specs.Step.{Step, powerUp, command, StepResult, poweredUp, responded}
 use Rattle.cdi_model.specs.Action.{Action, read, readNv, readStatus, write, program, setDefault, eraseAll, actionOf}
@@ -27,7 +27,7 @@ Cells = Cell → List ℕ
 
 -- ---- validity
 abbrev pub holdsAccepted : Cells → Copy → Key → Bool
-holdsAccepted s copy k = accepted k (s (stored copy k))
+holdsAccepted s copy k = accepted k (s (copyOf copy k))
 
 -- of items 13, 14, 15 and 16 the copy holds accepted values
 abbrev pub validCopy : Cells → Copy → Bool
@@ -67,7 +67,7 @@ decide s (command block response) =
 
 -- ---- what a step gives a cell that it stores in
 abbrev pub defaultOf : Cell → List ℕ
-defaultOf (stored copy k) = defaultValue k
+defaultOf (copyOf copy k) = defaultValue k
 defaultOf (single x) = []
 
 abbrev pub actionGives : Action → Cell → List ℕ
@@ -95,7 +95,7 @@ singleAtPowerUp hardwareLatchMask = []
 
 -- a working copy gets what the non-volatile one holds
 abbrev pub powerUpGives : Cells → Cell → List ℕ
-powerUpGives s (stored copy k) = s (stored nv k)
+powerUpGives s (copyOf copy k) = s (copyOf nv k)
 powerUpGives s (single x) = singleAtPowerUp x
 
 unfoldable pub gives : Cells → Decision → Cell → List ℕ
@@ -119,16 +119,16 @@ shownSingle hardwareLineMask v = v
 shownSingle hardwareLatchMask v = v
 
 abbrev pub shown : Cell → List ℕ → List ℕ
-shown (stored copy k) v = v
+shown (copyOf copy k) v = v
 shown (single x) v = shownSingle x v
 
 abbrev pub statusOf : Cells → List ℕ
 statusOf s =
-    statusBytes (byteOf (s (single flags))) (byteOf (s (single events))) (byteOf (s (stored working (setting interruptMask))))
-    (byteOf (s (stored working (setting controlSource))))
-    (byteOf (s (stored working (setting txPower)))) (byteOf (s (single hardwarePower)))
-    (byteOf (s (stored working (setting lineMask)))) (byteOf (s (single hardwareLineMask)))
-    (byteOf (s (stored working (setting latchMask)))) (byteOf (s (single hardwareLatchMask)))
+    statusBytes (byteOf (s (single flags))) (byteOf (s (single events))) (byteOf (s (copyOf working (setting interruptMask))))
+    (byteOf (s (copyOf working (setting controlSource))))
+    (byteOf (s (copyOf working (setting txPower)))) (byteOf (s (single hardwarePower)))
+    (byteOf (s (copyOf working (setting lineMask)))) (byteOf (s (single hardwareLineMask)))
+    (byteOf (s (copyOf working (setting latchMask)))) (byteOf (s (single hardwareLatchMask)))
 
 -- the value that an action reads
 abbrev pub actionValue : Cells → Action → List ℕ

@@ -2,7 +2,7 @@
 use Prim.Native.Nat.{ℕ}
 use mathlib.Core.List.{List}
 use mathlib.Core.Bool.{Bool, true, false, _&&_, _||_}
-use Rattle.cdi_model.specs.Cells.{Copy, nv, working, lineMask, latchMask, txPower, controlSource, interruptMask, setting, input, slot, address, rssi, events, flags, hardwarePower, hardwareLineMask, hardwareLatchMask, Cell, stored, single, hasWorking, isCell, same, sameCopy}
+use Rattle.cdi_model.specs.Cells.{Copy, nv, working, lineMask, latchMask, txPower, controlSource, interruptMask, setting, input, slot, address, rssi, events, flags, hardwarePower, hardwareLineMask, hardwareLatchMask, Cell, copyOf, single, hasWorking, isCell, same, sameCopy}
 use Rattle.cdi_model.specs.Action.{Action, read, readNv, readStatus, write, program, setDefault, eraseAll}
 
 -- what is decided on a step: a refusal by its number, a command's payload and what it does, or a power-up
@@ -18,14 +18,14 @@ isAccepted executePowerUp = true
 
 -- one copy of items 11 to 16 and 25: the keys that have both copies
 abbrev pub inCopy : Copy → Cell → Bool
-inCopy copy (stored c k) = sameCopy copy c && hasWorking k
+inCopy copy (copyOf c k) = sameCopy copy c && hasWorking k
 inCopy copy (single x) = false
 
 abbrev pub isSlot : Cell → Bool
-isSlot (stored c (setting s)) = false
-isSlot (stored c (input n)) = false
-isSlot (stored c (slot i)) = sameCopy c nv
-isSlot (stored c address) = false
+isSlot (copyOf c (setting s)) = false
+isSlot (copyOf c (input n)) = false
+isSlot (copyOf c (slot i)) = sameCopy c nv
+isSlot (copyOf c address) = false
 isSlot (single x) = false
 
 -- the cells that an action reads
@@ -35,9 +35,9 @@ actionReads (readNv d) c = same c d
 actionReads readStatus c =
     same c (single flags) || (same c (single events)
     || (same c (single hardwarePower) || (same c (single hardwareLineMask) || (same c (single hardwareLatchMask)
-    || (same c (stored working (setting lineMask)) || (same c (stored working (setting latchMask))
-    || (same c (stored working (setting txPower)) || (same c (stored working (setting controlSource))
-    || same c (stored working (setting interruptMask))))))))))
+    || (same c (copyOf working (setting lineMask)) || (same c (copyOf working (setting latchMask))
+    || (same c (copyOf working (setting txPower)) || (same c (copyOf working (setting controlSource))
+    || same c (copyOf working (setting interruptMask))))))))))
 actionReads (write k v) c = false
 actionReads (program k v) c = false
 actionReads setDefault c = false
@@ -48,8 +48,8 @@ abbrev pub actionStores : Action → Cell → Bool
 actionStores (read d) c = false
 actionStores (readNv d) c = false
 actionStores readStatus c = false
-actionStores (write k v) c = same c (stored working k)
-actionStores (program k v) c = (hasWorking k && same c (stored working k)) || same c (stored nv k)
+actionStores (write k v) c = same c (copyOf working k)
+actionStores (program k v) c = (hasWorking k && same c (copyOf working k)) || same c (copyOf nv k)
 actionStores setDefault c = inCopy working c || inCopy nv c
 actionStores eraseAll c = isSlot c
 

@@ -13,7 +13,7 @@ use Rattle.cdi_item.specs.Items.{items, slotCount, permitted}
 use Rattle.cdi_item.specs.Bits.{powerFromSetting, lineMaskFromSetting, latchMaskFromSetting}
 use Rattle.cdi_command.specs.Command as code
 use Rattle.cdi_command.specs.Command.{markOf, carriesValue, takesIndex}
-use Rattle.cdi_model.specs.Cells.{Copy, nv, working, Setting, lineMask, latchMask, txPower, controlSource, messageSelect, interruptMask, Key, setting, input, slot, address, Single, name, firmware, serial, lines, rssi, ladj, events, flags, hardwarePower, hardwareLineMask, hardwareLatchMask, Cell, stored, single, same}
+use Rattle.cdi_model.specs.Cells.{Copy, nv, working, Setting, lineMask, latchMask, txPower, controlSource, messageSelect, interruptMask, Key, setting, input, slot, address, Single, name, firmware, serial, lines, rssi, ladj, events, flags, hardwarePower, hardwareLineMask, hardwareLatchMask, Cell, copyOf, single, same}
 use Rattle.cdi_model.specs.Table.{Decision, refuse, execute, executePowerUp, reads, stores}
 use Rattle.cdi_model.specs.Model.{Cells, decidePayload, gives, valueRead, responsePayload}
 
@@ -35,7 +35,7 @@ everySingle =
     name ∷ firmware ∷ serial ∷ lines ∷ rssi ∷ ladj ∷ events ∷ flags ∷ hardwarePower ∷ hardwareLineMask ∷ hardwareLatchMask ∷ []
 
 unfoldable pub everyCell : List Cell
-everyCell = map (stored working) copiedKeys ++ map (stored nv) (copiedKeys ++ map slot (below slotCount []) ++ address ∷ []) ++ map single everySingle
+everyCell = map (copyOf working) copiedKeys ++ map (copyOf nv) (copiedKeys ++ map slot (below slotCount []) ++ address ∷ []) ++ map single everySingle
 
 abbrev pub isIn : Cell → List Cell → Bool
 isIn c cs = any (same c) cs
@@ -103,10 +103,10 @@ singleIn n hardwareLineMask = (0x10 + n) ∷ []
 singleIn n hardwareLatchMask = (0x10 + n) ∷ []
 
 unfoldable pub stateOf : (n control : ℕ) → Cells
-stateOf n control (stored copy (setting s)) = settingIn n control copy s ∷ []
-stateOf n control (stored copy (input i)) = channelIn n copy ∷ n ∷ 0 ∷ 0 ∷ i ∷ []
-stateOf n control (stored copy (slot i)) = n ∷ n ∷ n ∷ n ∷ i ∷ []
-stateOf n control (stored copy address) = replicate 4 n
+stateOf n control (copyOf copy (setting s)) = settingIn n control copy s ∷ []
+stateOf n control (copyOf copy (input i)) = channelIn n copy ∷ n ∷ 0 ∷ 0 ∷ i ∷ []
+stateOf n control (copyOf copy (slot i)) = n ∷ n ∷ n ∷ n ∷ i ∷ []
+stateOf n control (copyOf copy address) = replicate 4 n
 stateOf n control (single x) = singleIn n x
 
 abbrev pub base : ℕ → Cells
