@@ -70,8 +70,8 @@ module _ (s : Cells) (copy : Copy) where
 module _ (s : Cells) where
   -- the validity of a state, part by part
   valid-parts :
-      (isValid s ≡ true) ↔ Each (hasZero (s (single name))) (validCopy s nv) (validCopy s working)
-      (allBelow 40 (λ i. holdsAccepted s nv (slot i))) (acceptedFlags (byteOf (s (single flags))))
+      (isValid s ≡ true) ↔ Each (hasZero (s (single name))) (validCopy s nv) (allBelow 40 (λ i. holdsAccepted s nv (slot i)))
+      (validCopy s working) (acceptedFlags (byteOf (s (single flags))))
   unfolding isValid
   valid-parts = five-parts _ _ _ _ _
 
@@ -79,11 +79,11 @@ module _ (s : Cells) where
   pub valid-takes : isValid s ≡ true → AllTake s
   valid-takes e (copyOf nv (setting x)) h = copy-takes s nv (valid-parts .0 e .1) (setting x) h refl
   valid-takes e (copyOf nv (input n)) h = copy-takes s nv (valid-parts .0 e .1) (input n) h refl
-  valid-takes e (copyOf nv (slot i)) h = all-at 40 (λ i. holdsAccepted s nv (slot i)) (valid-parts .0 e .3) i (ltb-true i 40 h)
+  valid-takes e (copyOf nv (slot i)) h = all-at 40 (λ i. holdsAccepted s nv (slot i)) (valid-parts .0 e .2) i (ltb-true i 40 h)
   valid-takes e (copyOf nv address) h = refl
   valid-takes e (copyOf working k) h =
       let p = and-eq-true-iff (isKey k) (hasWorking k) .0 h in
-      copy-takes s working (valid-parts .0 e .2) k (p .0) (p .1)
+      copy-takes s working (valid-parts .0 e .3) k (p .0) (p .1)
   valid-takes e (single x) h =
       choice (λ t. t ≡ true) (sameSingle x name) (λ q. rw (single-eq x name q) (valid-parts .0 e .0))
       (λ _. choice (λ t. t ≡ true) (sameSingle x flags) (λ q. rw (single-eq x flags q) (valid-parts .0 e .4)) (λ _. refl))
@@ -94,8 +94,8 @@ module _ (s : Cells) where
       valid-parts .1 (
         h (single name) refl,
         copy nv (λ k e. h (copyOf nv k) (and-eq-true-iff (isKey k) (hasWorking k) .0 e .0)),
-        copy working (λ k. h (copyOf working k)),
         all-of 40 (λ i. holdsAccepted s nv (slot i)) (λ i p. h (copyOf nv (slot i)) (lt-ltb i 40 p)),
+        copy working (λ k. h (copyOf working k)),
         h (single flags) refl,
       )
     where

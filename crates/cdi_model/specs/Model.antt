@@ -35,11 +35,13 @@ validCopy s copy =
     (((holdsAccepted s copy (setting txPower) && holdsAccepted s copy (setting controlSource)) &&
     holdsAccepted s copy (setting messageSelect)) && holdsAccepted s copy (input 1)) && holdsAccepted s copy (input 2)
 
--- the stored name has a 00, both copies and all slots hold accepted values, and so do the flags
+-- what is non-volatile: the name has a 00, and its copy of the settings and all slots hold accepted values
+abbrev pub validStored : Cells → Bool
+validStored s = (hasZero (s (single name)) && validCopy s nv) && allBelow slotCount (λ i. holdsAccepted s nv (slot i))
+
+-- and so do the working copy and the live flags
 unfoldable pub isValid : Cells → Bool
-isValid s =
-    (((hasZero (s (single name)) && validCopy s nv) && validCopy s working) && allBelow slotCount (λ i. holdsAccepted s nv (slot i))) &&
-    acceptedFlags (byteOf (s (single flags)))
+isValid s = (validStored s && validCopy s working) && acceptedFlags (byteOf (s (single flags)))
 
 -- ---- decisions, in the order of the refusals
 -- those of the payload
