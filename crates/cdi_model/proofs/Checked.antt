@@ -140,6 +140,6 @@ frame-checked block (refused n) = tt
 pub step-checked : (s : Cells) (x : Step) → CheckedDecision (decide s x)
 unfolding decide decideBlock
 step-checked s powerUp = choice CheckedDecision (isValid s) (λ _. tt) (λ _. tt)
-step-checked s (command block response) =
-    choice CheckedDecision (ltb (length response) responseBufferMin) (λ _. tt)
-    (λ _. choice CheckedDecision (isValid s) (λ _. frame-checked block (readFrame wakeLimit block)) (λ _. tt))
+step-checked s (command r) =
+    choice CheckedDecision (ltb (length (r .response)) responseBufferMin) (λ _. tt)
+    (λ _. choice CheckedDecision (isValid s) (λ _. frame-checked (r .block) (readFrame wakeLimit (r .block))) (λ _. tt))

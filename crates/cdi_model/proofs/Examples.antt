@@ -18,7 +18,7 @@ use Rattle.cdi_command.specs.Command.{select, commandOn, validateItem, isServed
 use Rattle.cdi_model.specs.Cells.{nv, working, txPower, controlSource, messageSelect, interruptMask, setting, input, slot, Single, name, firmware, serial, lines, rssi, ladj, events, flags, hardwarePower, hardwareLineMask, hardwareLatchMask, Cell, copyOf, single, same}
 use Rattle.cdi_model.specs.Values.{upToZero}
 use Rattle.cdi_model.specs.Factory.{factoryCells}
-use Rattle.cdi_model.specs.Step.{Step, powerUp, command, StepResult, poweredUp, responded}
+use Rattle.cdi_model.specs.Step.{request, Step, powerUp, command, StepResult, poweredUp, responded}
 use Rattle.cdi_model.specs.Action.{actionOf}
 use Rattle.cdi_model.specs.Table.{Decision, refuse, executePowerUp, stores}
 use Rattle.cdi_model.specs.Model.{Cells, isValid, decide, decidePayload, decideBlock, gives, valueRead, responsePayload, resultOf, model}
@@ -93,15 +93,15 @@ Row = Step × StepResult
 -- the block gets the response, and the bytes behind it in its buffer stay FF
 abbrev pub gets : List ℕ → List ℕ → Row
 gets block response =
-    (command block (replicate 22 0xFF), responded 0 (length response) (response ++ replicate (22 - length response) 0xFF))
+    (command (request block (replicate 22 0xFF)), responded 0 (length response) (response ++ replicate (22 - length response) 0xFF))
 
 -- the block is refused with the number
 abbrev pub refuses : ℕ → List ℕ → Row
-refuses n block = (command block (replicate 22 0xFF), responded n 0 (replicate 22 0xFF))
+refuses n block = (command (request block (replicate 22 0xFF)), responded n 0 (replicate 22 0xFF))
 
 -- the block with a buffer of 21 bytes
 abbrev pub short : List ℕ → Row
-short block = (command block (replicate 21 0xFF), responded 1 0 (replicate 21 0xFF))
+short block = (command (request block (replicate 21 0xFF)), responded 1 0 (replicate 21 0xFF))
 
 -- a power-up, with the number of its refusal or 0
 abbrev pub powers : ℕ → Row
@@ -360,13 +360,13 @@ factory-valid = refl
 -- ---- no step changes validity, so it is computed once for a run
 abbrev decideBy : Bool → Step → Decision
 decideBy valid powerUp = cond valid executePowerUp (refuse invalid)
-decideBy valid (command block response) =
-    cond (ltb (length response) responseBufferMin) (refuse responseBufferShort) (cond valid (decideBlock block) (refuse invalid))
+decideBy valid (command r) =
+    cond (ltb (length (r .response)) responseBufferMin) (refuse responseBufferShort) (cond valid (decideBlock (r .block)) (refuse invalid))
 
 decide-by : (s : Cells) (x : Step) → decide s x ≡ decideBy (isValid s) x
 unfolding decide
 decide-by s powerUp = refl
-decide-by s (command block response) = refl
+decide-by s (command r) = refl
 
 abbrev resultBy : Step → Cells → Decision → StepResult
 resultBy x s d = resultOf x d (valueRead s d)

@@ -1,5 +1,5 @@
 -- The model keeps what the theorem asks of it: no step changes validity, and beside validity a step goes by the cells that the table
--- names and changes no other.
+-- names and changes no other. Beyond that, a refused step reads no cell.
 -- Assumes nothing.
 use mathlib.Core.Path.{_≡_, refl, sym, ap, ap₂, _∙_}
 use mathlib.Core.Bool.{true, false, cond, _&&_, _||_, and-false, and-eq-true-iff}
@@ -25,8 +25,8 @@ use Rattle.cdi_model.proofs.Stored.{next-takes}
 pub invalid-refused : (s : Cells) (x : Step) → isValid s ≡ false → isAccepted (decide s x) ≡ false
 unfolding decide
 invalid-refused s powerUp e = rw e
-invalid-refused s (command block response) e =
-    choice (λ d. isAccepted d ≡ false) (ltb (length response) responseBufferMin) (λ _. refl) (λ _. rw e)
+invalid-refused s (command r) e =
+    choice (λ d. isAccepted d ≡ false) (ltb (length (r .response)) responseBufferMin) (λ _. refl) (λ _. rw e)
 
 -- what is refused leaves validity
 refused-kept : (s : Cells) (d : Decision) → isAccepted d ≡ false → isValid (λ c. cond (stores d c) (gives s d c) (s c)) ≡ isValid s
@@ -91,7 +91,7 @@ module _ (s t : Cells) where
 decide-framed : (s t : Cells) (x : Step) → isValid t ≡ isValid s → decide t x ≡ decide s x
 unfolding decide
 decide-framed s t powerUp e = rw e
-decide-framed s t (command block response) e = rw e
+decide-framed s t (command r) e = rw e
 
 -- ---- refused steps
 -- a refusal reads no cell and stores in none, ...

@@ -43,6 +43,6 @@ frame-told block (refused n) e = sym (not-none frameRefusals n refl (frame-refus
 pub accepted-is-none : (s : Cells) (x : Step) → isAccepted (decide s x) ≡ eqb (refusalBy (decide s x)) none
 unfolding decide decideBlock
 accepted-is-none s powerUp = choice Told (isValid s) (λ _. refl) (λ _. refl)
-accepted-is-none s (command block response) =
-    choice Told (ltb (length response) responseBufferMin) (λ _. refl)
-    (λ _. choice Told (isValid s) (λ _. frame-told block (readFrame wakeLimit block) refl) (λ _. refl))
+accepted-is-none s (command r) =
+    choice Told (ltb (length (r .response)) responseBufferMin) (λ _. refl)
+    (λ _. choice Told (isValid s) (λ _. frame-told (r .block) (readFrame wakeLimit (r .block)) refl) (λ _. refl))

@@ -12,7 +12,7 @@ use Rattle.cdi_item.specs.Items.{items, itemIn, itemOf}
 use Rattle.cdi_item.specs.Values.{acceptedValue}
 use Rattle.cdi_command.specs.Command.{select, commandOn, validateItem, isServed, isHeadLengthRight, validatePayload}
 use Rattle.cdi_model.specs.Cells.{nv, working, txPower, messageSelect, setting, Cell, copyOf}
-use Rattle.cdi_model.specs.Step.{Step, powerUp, command}
+use Rattle.cdi_model.specs.Step.{request, Step, powerUp, command}
 use Rattle.cdi_model.specs.Action.{read, readNv, actionOf}
 use Rattle.cdi_model.specs.Table.{stores}
 use Rattle.cdi_model.specs.Model.{model, isValid, decide, decidePayload, decideBlock, gives}
@@ -22,7 +22,7 @@ use Rattle.cdi_model.specs.Factory.{factoryCells}
 
 -- a payload's frame with a response buffer
 abbrev block : List ℕ → Step
-block payload = command (0x80 ∷ 0x55 ∷ (0x80 + length payload) ∷ payload) (replicate 22 0xFF)
+block payload = command (request (0x80 ∷ 0x55 ∷ (0x80 + length payload) ∷ payload) (replicate 22 0xFF))
 
 abbrev readStatusBlock : Step
 readStatusBlock = block (0x01 ∷ 0x23 ∷ [])

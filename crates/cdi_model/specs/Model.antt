@@ -63,9 +63,9 @@ decideBlock block = decideFrame block (readFrame wakeLimit block)
 -- 1 where the response buffer has no room for the longest response, 2, then those of the block; a power-up is refused with 2 alone
 unfoldable pub decide : Cells → Step → Decision
 decide s powerUp = cond (isValid s) executePowerUp (refuse invalid)
-decide s (command block response) =
-    cond (ltb (length response) responseBufferMin) (refuse responseBufferShort)
-    (cond (isValid s) (decideBlock block) (refuse invalid))
+decide s (command r) =
+    cond (ltb (length (r .response)) responseBufferMin) (refuse responseBufferShort)
+    (cond (isValid s) (decideBlock (r .block)) (refuse invalid))
 
 -- ---- what a step gives a cell that it stores in
 abbrev pub defaultOf : Cell → List ℕ
@@ -170,9 +170,9 @@ respond response frame = responded none (length frame) (written response frame)
 -- a power-up is never decided on a block
 unfoldable pub resultOf : Step → Decision → List ℕ → StepResult
 resultOf powerUp d v = poweredUp (refusalBy d)
-resultOf (command block response) (refuse n) v = responded n 0 response
-resultOf (command block response) (execute payload a) v = respond response (responseFrame (responsePayload payload a v))
-resultOf (command block response) executePowerUp v = responded none 0 response
+resultOf (command r) (refuse n) v = responded n 0 (r .response)
+resultOf (command r) (execute payload a) v = respond (r .response) (responseFrame (responsePayload payload a v))
+resultOf (command r) executePowerUp v = responded none 0 (r .response)
 
 -- ---- the model
 abbrev pub model : Model
