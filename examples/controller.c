@@ -73,7 +73,7 @@ static int charge(const cdi_analog_input *input, const uint16_t *readings, size_
 static bool survive_power_loss(cdi_module_state *state)
 {
     uint8_t image[CDI_IMAGE_SIZE];
-    cdi_settings kept = state->nv;
+    cdi_settings kept = state->stored.settings;
     cdi_outcome saved = cdi_save(state, image, sizeof image);
 
     if (saved.refusal != CDI_REFUSAL_NONE) {
@@ -88,14 +88,16 @@ static bool survive_power_loss(cdi_module_state *state)
         printf("%-10s refused %u\n", "load", refusal);
         return false;
     }
-    printf("%-10s message select %u, power %d dBm\n", "loaded", state->working.message_select,
-           (int8_t)state->working.tx_power);
+    const cdi_settings *working = &state->working.settings;
+    printf("%-10s message select %u, power %d dBm\n", "loaded", working->message_select,
+           (int8_t)working->tx_power);
 
-    image[3] = 1; /* version 0x0101, which there is not */
+    image[3] = 1; /* version 0x0101, which does not exist */
     refusal = cdi_load(state, image, sizeof image);
     printf("%-10s refused %u\n", "load", refusal);
-    return refusal == CDI_REFUSAL_IMAGE_VERSION && memcmp(&kept, &state->nv, sizeof kept) == 0
-        && memcmp(&kept, &state->working, sizeof kept) == 0;
+    return refusal == CDI_REFUSAL_IMAGE_VERSION
+        && memcmp(&kept, &state->stored.settings, sizeof kept) == 0
+        && memcmp(&kept, working, sizeof kept) == 0;
 }
 
 int main(void)
@@ -106,7 +108,8 @@ int main(void)
 
     bool done = cdi_power_up(&state) == CDI_REFUSAL_NONE && configure(&state)
         && !command(&state, too_strong, sizeof too_strong)
-        && charge(&state.working.analog_inputs[1], readings, 2) == 87 && survive_power_loss(&state);
+        && charge(&state.working.settings.analog_inputs[1], readings, 2) == 87
+        && survive_power_loss(&state);
     printf("%s\n", done ? "done" : "failed");
     return done ? 0 : 1;
 }

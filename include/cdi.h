@@ -8,15 +8,15 @@
  *
  * What holds for every function here:
  *
- *   - It takes every input, ends, and refuses bad input with a number (CDI_REFUSAL_...). Where
- *     several would do it is the first in the order given at the function. A refusal changes no
- *     byte of a buffer and nothing in the state.
+ *   - It takes every input, ends, and refuses bad input with a number (CDI_REFUSAL_...). If several
+ *     apply, the function's comment gives the order. A refusal changes no byte of a buffer and
+ *     nothing in the state.
  *   - The caller owns all memory. Nothing is allocated, kept after the return, or shared between
  *     calls: calls on different states may run at the same time.
  *   - A pointer is not NULL, also where the length beside it is 0, and the regions that a call is
  *     handed do not overlap. Readings are aligned as uint16_t is; a state and bytes may lie
  *     anywhere.
- *   - What it reads and what it writes is told at the function; all else stays as it was.
+ *   - The function's comment says what it reads and what it writes; all else stays as it was.
  *
  * Numbers in the form 0x.. are bytes on the wire. The header needs C11 or C++11, for its assertions
  * on the layout; the library needs memcpy and memset.
@@ -36,12 +36,12 @@ extern "C" {
 enum {
     CDI_RESPONSE_BUFFER_MIN = 22,  /* bytes that a response buffer has at least: the longest response */
     CDI_FRAME_BUFFER_MIN = 27,     /* bytes that a command's buffer has at least: the longest command */
-    CDI_IMAGE_SIZE = 249,          /* bytes of a stored image, no more and no fewer */
+    CDI_IMAGE_SIZE = 249,          /* bytes of an image of version 1, no more and no fewer */
     CDI_WAKE_LIMIT = 16,           /* the most wake bytes in a frame */
     CDI_NAME_LENGTH = 17,          /* bytes of a stored name */
     CDI_INPUT_COUNT = 2,           /* analog inputs: on the wire 1 and 2, in analog_inputs[] 0 and 1 */
     CDI_SLOT_COUNT = 40,           /* paired modules: 0 to 39 on the wire and in slots[] */
-    CDI_READINGS_MAX = 16,         /* the most readings behind one readout */
+    CDI_READINGS_MAX = 16,         /* the most readings in one readout */
     CDI_READING_MAX = 4095         /* the largest reading of the 12-bit converter */
 };
 
@@ -52,7 +52,7 @@ enum {
     CDI_REFUSAL_RESPONSE_BUFFER_SHORT = 1,  /* the response buffer has fewer than CDI_RESPONSE_BUFFER_MIN bytes */
     CDI_REFUSAL_INVALID = 2,                /* the state, or what an image holds, is not valid: see "The state" */
     CDI_REFUSAL_ENDS_EARLY = 3,             /* the block or the payload ends where more bytes were to come */
-    CDI_REFUSAL_BAD_START = 4,              /* no 0x80 first, a 17th wake byte, or no 0x55 behind the wake bytes */
+    CDI_REFUSAL_BAD_START = 4,              /* no 0x80 first, a 17th wake byte, or no 0x55 after the wake bytes */
     CDI_REFUSAL_BAD_LENGTH_BYTE = 5,        /* the length byte is under 0x81 */
     CDI_REFUSAL_TRAILING_BYTES = 6,         /* bytes follow the frame */
     CDI_REFUSAL_COMMAND_NOT_SERVED = 7,     /* the command is not served */
@@ -125,14 +125,19 @@ enum {
 
 /* ---- The state ---------------------------------------------------------------------------------
  *
- * Everything that a module holds, in plain bytes: it can be copied, compared and kept with memcpy
- * and memcmp.
+ * Everything that a module holds, in three parts: `stored` survives a loss of power, `working` has
+ * the settings in force, and `live` has the values that the controller sets. All of it is plain
+ * bytes without padding: memcpy copies a state, memcmp compares two.
  *
- * A state is valid where the name has a 0x00; tx_power, control_source, message_select, both
- * analog inputs (in nv and in working) and all slots hold values that their items accept; and
- * flags has a mode of at most 4 in bits 0 to 2 and zeros in bits 3, 6 and 7. cdi_factory's state
- * is valid, and every function here leaves a valid state valid. On an invalid one a command, a
- * power-up and a save are refused; a load puts it right.
+ * A state is valid if
+ *
+ *   - the name has a 0x00;
+ *   - all slots, and in both copies of the settings tx_power, control_source, message_select and
+ *     both analog inputs, hold values that their items accept;
+ *   - the live flags have a mode of at most 4 in bits 0 to 2, and zeros in bits 3, 6 and 7.
+ *
+ * cdi_factory's state is valid, and every function here leaves a valid state valid. On an invalid
+ * state a command, a power-up and a save are refused; a load makes it valid again.
  */
 
 /*
@@ -152,7 +157,7 @@ typedef struct {
     uint8_t offset[2];  /* signed, two's complement, the high byte first */
 } cdi_analog_input;
 
-/* One copy of the settings, items 0x11 to 0x16 and 0x25. */
+/* The settings, items 0x11 to 0x16 and 0x25. A state has two copies, one stored and one working. */
 typedef struct {
     uint8_t line_mask;
     uint8_t latch_mask;
@@ -164,8 +169,9 @@ typedef struct {
 } cdi_settings;
 
 /*
- * What the hardware's pins select. The power, line mask and latch mask in force are those of the
- * working settings where bit 0, 3 and 4 of the working control source is 1, else these.
+ * What the hardware's pins select. Bits 0, 3 and 4 of the working control source decide where the
+ * power, the line mask and the latch mask in force come from: 1 takes the working setting, 0 the
+ * value here.
  */
 typedef struct {
     uint8_t power;
@@ -173,20 +179,44 @@ typedef struct {
     uint8_t latch_mask;
 } cdi_hardware_selection;
 
+/*
+ * What a module keeps without power: what an image holds. Program, Set Default, Erase All and a
+ * load change it.
+ */
 typedef struct {
-    uint8_t name[CDI_NAME_LENGTH];
+    uint8_t name[CDI_NAME_LENGTH];  /* text up to the first 0x00 */
     uint8_t firmware[3];
     uint8_t serial[4];
     uint8_t address[4];
-    cdi_settings nv;       /* the stored settings */
-    cdi_settings working;  /* those in force */
+    cdi_settings settings;
     cdi_slot slots[CDI_SLOT_COUNT];
-    uint8_t lines[2];      /* from here on live values, for the controller to set */
+} cdi_stored;
+
+/*
+ * What a power-up makes from the stored part: the settings in force. Write changes only these;
+ * Program and Set Default change the stored ones too.
+ */
+typedef struct {
+    cdi_settings settings;
+} cdi_working;
+
+/*
+ * What the module senses; items 0x20 to 0x23 and 0x26 show it. The controller sets these values
+ * between calls. No command changes them; a power-up and a load reset rssi, events and flags.
+ */
+typedef struct {
+    uint8_t lines[2];
     uint8_t rssi[2];
     uint8_t ladj;
     uint8_t events;
     uint8_t flags;
     cdi_hardware_selection hardware;
+} cdi_live;
+
+typedef struct {
+    cdi_stored stored;
+    cdi_working working;
+    cdi_live live;
 } cdi_module_state;
 
 /* ---- Results ----------------------------------------------------------------------------------- */
@@ -215,8 +245,8 @@ cdi_module_state cdi_factory(void);
  * Executes one command block on the state. Reads the state and the block; a block is exactly one
  * frame: 0x80, up to 16 wake bytes 0xFF, 0x55, a byte 0x80 + n, and n payload bytes. Writes the
  * response, a frame without wake bytes, over the first bytes of `response`, and leaves the bytes
- * behind it. Write, Program, Set Default and Erase All change the state where it stands; a read
- * changes nothing in it. The caller owns state, block and response; no two of them overlap.
+ * after it. Write, Program, Set Default and Erase All change the state in place; a read changes
+ * nothing in it. The caller owns state, block and response; no two of them overlap.
  *
  * Refusals, the first that applies: RESPONSE_BUFFER_SHORT; INVALID for the state; ENDS_EARLY,
  * BAD_START, BAD_LENGTH_BYTE or TRAILING_BYTES as the block's bytes are met from the left;
@@ -228,8 +258,9 @@ cdi_outcome cdi_execute(cdi_module_state *state, const uint8_t *block, size_t bl
                         uint8_t *response, size_t response_len);
 
 /*
- * What power-up does: the working settings are taken from the stored ones, RSSI becomes 0x80 0x80,
- * events and flags 0x00. Reads and writes the state, which the caller owns; all else in it stays.
+ * What power-up does: the working settings become a copy of the stored ones, the live rssi becomes
+ * 0x80 0x80, and the live events and flags become 0x00. Reads and writes the state, which the
+ * caller owns; all else in it stays.
  *
  * Returns 0, or the refusal: INVALID for the state.
  */
@@ -239,19 +270,19 @@ uint8_t cdi_power_up(cdi_module_state *state);
 
 /*
  * Writes the image of the state, all CDI_IMAGE_SIZE bytes of `image`: the mark SWB, the version
- * 0x00 0x01, then the name, firmware, serial, address, stored items 0x11 to 0x15, both stored
- * analog inputs, the 40 slots and stored item 0x25. Reads the state and leaves it; what works and
- * what is live is not part of an image. The caller owns state and image; they do not overlap.
+ * 0x00 0x01, then the stored part in item order: name, firmware, serial, address, items 0x11 to
+ * 0x15, both analog inputs, the 40 slots and item 0x25. Working settings and live values are not
+ * saved. Reads the state and leaves it. The caller owns state and image; they do not overlap.
  *
  * Refusals, the first that applies: IMAGE_LENGTH; INVALID for the state.
  */
 cdi_outcome cdi_save(const cdi_module_state *state, uint8_t *image, size_t image_len);
 
 /*
- * Brings an image back: what it holds replaces its part of the state, and then the module powers
- * up. Reads the image; writes the state, of which lines, LADJ and the hardware's selections stay.
- * The state before need not be valid. The state afterwards is, and saving it gives the same image.
- * The caller owns state and image; they do not overlap.
+ * Brings an image back: what it holds replaces the stored part, and then the module powers up.
+ * Reads the image; writes the state, of which the live lines, ladj and hardware stay. The state
+ * before need not be valid. The state afterwards is, and saving it gives the same image. The caller
+ * owns state and image; they do not overlap.
  *
  * Returns 0, or the first refusal that applies: IMAGE_LENGTH; IMAGE_MARK; IMAGE_VERSION; INVALID
  * for an image that holds what no valid state does.
@@ -261,9 +292,9 @@ uint8_t cdi_load(cdi_module_state *state, const uint8_t *image, size_t image_len
 /* ---- The host's side --------------------------------------------------------------------------- */
 
 /*
- * Writes a command's payload as a block, behind `wake` wake bytes, over the first bytes of
- * `frame`, and leaves the bytes behind it. Reads the payload. What it writes cdi_execute takes as
- * exactly that payload. The caller owns payload and frame; they do not overlap.
+ * Writes a command's payload as a block with `wake` wake bytes, over the first bytes of `frame`,
+ * and leaves the bytes after it. Reads the payload. cdi_execute reads the block as exactly that
+ * payload. The caller owns payload and frame; they do not overlap.
  *
  * Refusals, the first that applies: FRAME_BUFFER_SHORT; WAKE_COUNT_OVER; ENDS_EARLY for an empty
  * payload; then from COMMAND_NOT_SERVED on as for cdi_execute.
@@ -317,20 +348,26 @@ CDI_HOLDS(sizeof(cdi_hardware_selection) == 3);
 CDI_HOLDS(offsetof(cdi_hardware_selection, power) == 0);
 CDI_HOLDS(offsetof(cdi_hardware_selection, line_mask) == 1);
 CDI_HOLDS(offsetof(cdi_hardware_selection, latch_mask) == 2);
+CDI_HOLDS(sizeof(cdi_stored) == 244);
+CDI_HOLDS(offsetof(cdi_stored, name) == 0);
+CDI_HOLDS(offsetof(cdi_stored, firmware) == 17);
+CDI_HOLDS(offsetof(cdi_stored, serial) == 20);
+CDI_HOLDS(offsetof(cdi_stored, address) == 24);
+CDI_HOLDS(offsetof(cdi_stored, settings) == 28);
+CDI_HOLDS(offsetof(cdi_stored, slots) == 44);
+CDI_HOLDS(sizeof(cdi_working) == 16);
+CDI_HOLDS(offsetof(cdi_working, settings) == 0);
+CDI_HOLDS(sizeof(cdi_live) == 10);
+CDI_HOLDS(offsetof(cdi_live, lines) == 0);
+CDI_HOLDS(offsetof(cdi_live, rssi) == 2);
+CDI_HOLDS(offsetof(cdi_live, ladj) == 4);
+CDI_HOLDS(offsetof(cdi_live, events) == 5);
+CDI_HOLDS(offsetof(cdi_live, flags) == 6);
+CDI_HOLDS(offsetof(cdi_live, hardware) == 7);
 CDI_HOLDS(sizeof(cdi_module_state) == 270);
-CDI_HOLDS(offsetof(cdi_module_state, name) == 0);
-CDI_HOLDS(offsetof(cdi_module_state, firmware) == 17);
-CDI_HOLDS(offsetof(cdi_module_state, serial) == 20);
-CDI_HOLDS(offsetof(cdi_module_state, address) == 24);
-CDI_HOLDS(offsetof(cdi_module_state, nv) == 28);
-CDI_HOLDS(offsetof(cdi_module_state, working) == 44);
-CDI_HOLDS(offsetof(cdi_module_state, slots) == 60);
-CDI_HOLDS(offsetof(cdi_module_state, lines) == 260);
-CDI_HOLDS(offsetof(cdi_module_state, rssi) == 262);
-CDI_HOLDS(offsetof(cdi_module_state, ladj) == 264);
-CDI_HOLDS(offsetof(cdi_module_state, events) == 265);
-CDI_HOLDS(offsetof(cdi_module_state, flags) == 266);
-CDI_HOLDS(offsetof(cdi_module_state, hardware) == 267);
+CDI_HOLDS(offsetof(cdi_module_state, stored) == 0);
+CDI_HOLDS(offsetof(cdi_module_state, working) == 244);
+CDI_HOLDS(offsetof(cdi_module_state, live) == 260);
 CDI_HOLDS(sizeof(size_t) == 8);
 CDI_HOLDS(sizeof(cdi_outcome) == 16);
 CDI_HOLDS(offsetof(cdi_outcome, refusal) == 0);
