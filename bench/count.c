@@ -31,8 +31,8 @@ enum { RESPONSE = 22, LONGEST_BLOCK = 145 };
 static module_state used_module(void)
 {
     module_state state = FACTORY();
-    memcpy(state.name, "Swap bay 7 north", sizeof state.name);
-    memcpy(&state.slots[39], "\x01\x02\x03\x04\x05", sizeof state.slots[39]);
+    memcpy(state.stored.name, "Swap bay 7 north", sizeof state.stored.name);
+    memcpy(&state.stored.slots[39], "\x01\x02\x03\x04\x05", sizeof state.stored.slots[39]);
     return state;
 }
 

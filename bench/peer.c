@@ -25,32 +25,33 @@ enum { R = 1, N = 2, W = 4, P = 8 }; /* Read, Read NV, Write, Program */
 
 struct item {
     uint8_t value_length, index_length;
-    uint8_t commands;     /* 0: not served */
-    uint16_t working, nv; /* where its cells lie in the state; the same for a single cell */
+    uint8_t commands;         /* 0: not served */
+    uint16_t working, stored; /* where its cells lie in the state; the same for a single cell */
 };
 
 #define CELL(field) offsetof(struct peer_state, field), offsetof(struct peer_state, field)
 #define CELLS(field) \
-    offsetof(struct peer_state, working.field), offsetof(struct peer_state, nv.field)
+    offsetof(struct peer_state, working.settings.field), \
+    offsetof(struct peer_state, stored.settings.field)
 
 static const struct item items[256] = {
-    [NAME] = {PEER_NAME, 0, R | N, CELL(name)},
-    [FIRMWARE] = {3, 0, R | N, CELL(firmware)},
-    [SERIAL] = {4, 0, R | N, CELL(serial)},
-    [ADDRESS] = {4, 0, R | N | P, CELL(address)},
+    [NAME] = {PEER_NAME, 0, R | N, CELL(stored.name)},
+    [FIRMWARE] = {3, 0, R | N, CELL(stored.firmware)},
+    [SERIAL] = {4, 0, R | N, CELL(stored.serial)},
+    [ADDRESS] = {4, 0, R | N | P, CELL(stored.address)},
     [LINE_MASK] = {1, 0, R | N | W | P, CELLS(line_mask)},
     [LATCH_MASK] = {1, 0, R | N | W | P, CELLS(latch_mask)},
     [TX_POWER] = {1, 0, R | N | W | P, CELLS(tx_power)},
     [CONTROL_SOURCE] = {1, 0, R | N | W | P, CELLS(control_source)},
     [MESSAGE_SELECT] = {1, 0, R | N | W | P, CELLS(message_select)},
     [ANALOG_INPUT] = {PEER_ROW, 1, R | N | W | P, CELLS(analog_inputs)},
-    [SLOT] = {PEER_ROW, 1, R | N | P, CELL(slots)},
-    [LINES] = {2, 0, R, CELL(lines)},
-    [RSSI] = {2, 0, R, CELL(rssi)},
-    [LADJ] = {1, 0, R, CELL(ladj)},
+    [SLOT] = {PEER_ROW, 1, R | N | P, CELL(stored.slots)},
+    [LINES] = {2, 0, R, CELL(live.lines)},
+    [RSSI] = {2, 0, R, CELL(live.rssi)},
+    [LADJ] = {1, 0, R, CELL(live.ladj)},
     [STATUS] = {4, 0, R, 0, 0}, /* no cell of its own */
     [INTERRUPT_MASK] = {1, 0, R | W | P, CELLS(interrupt_mask)},
-    [EVENTS] = {1, 0, R, CELL(events)},
+    [EVENTS] = {1, 0, R, CELL(live.events)},
 };
 
 static bool accepts_tx_power(uint8_t value) { return (int8_t)value >= -20 && (int8_t)value <= 10; }
@@ -98,8 +99,9 @@ static const struct peer_settings default_settings = {
 struct peer_state peer_factory(void)
 {
     /* every byte that isn't named is 00 */
-    return (struct peer_state){
-        .nv = default_settings, .working = default_settings, .rssi = {0x80, 0x80}};
+    return (struct peer_state){.stored.settings = default_settings,
+                               .working.settings = default_settings,
+                               .live.rssi = {0x80, 0x80}};
 }
 
 static bool are_valid_settings(const struct peer_settings *settings)
@@ -113,11 +115,14 @@ static bool are_valid_settings(const struct peer_settings *settings)
 
 static bool is_valid(const struct peer_state *state)
 {
-    if (memchr(state->name, 0x00, PEER_NAME) == NULL) return false;
-    if (!are_valid_settings(&state->nv) || !are_valid_settings(&state->working)) return false;
+    const struct peer_stored *stored = &state->stored;
+    uint8_t flags = state->live.flags;
+    if (memchr(stored->name, 0x00, PEER_NAME) == NULL) return false;
+    if (!are_valid_settings(&stored->settings)) return false;
+    if (!are_valid_settings(&state->working.settings)) return false;
     for (size_t i = 0; i < PEER_SLOTS; i++)
-        if (!accepts_slot(state->slots[i])) return false;
-    return (state->flags & 0x07) <= 4 && (state->flags & 0xC8) == 0;
+        if (!accepts_slot(stored->slots[i])) return false;
+    return (flags & 0x07) <= 4 && (flags & 0xC8) == 0;
 }
 
 /* ---- Frame and payload ---------------------------------------------------------------------- */
@@ -169,18 +174,19 @@ enum { ACKNOWLEDGED = 0xC0, READ_RESPONSE = 0xC1, READ_NV_RESPONSE = 0xC2 };
 
 static size_t write_status(const struct peer_state *state, uint8_t *value)
 {
-    const struct peer_settings *working = &state->working;
-    const struct peer_hardware_selection *hardware = &state->hardware;
+    const struct peer_settings *working = &state->working.settings;
+    const struct peer_live *live = &state->live;
+    const struct peer_hardware_selection *hardware = &live->hardware;
     uint8_t control = working->control_source;
-    bool interrupt = (state->events & working->interrupt_mask) != 0;
-    value[0] = (uint8_t)((state->flags & 0x7F) | (interrupt ? 0x80 : 0x00));
+    bool interrupt = (live->events & working->interrupt_mask) != 0;
+    value[0] = (uint8_t)((live->flags & 0x7F) | (interrupt ? 0x80 : 0x00));
     value[1] = control & 0x01 ? working->tx_power : hardware->power;
     value[2] = control & 0x08 ? working->line_mask : hardware->line_mask;
     value[3] = control & 0x10 ? working->latch_mask : hardware->latch_mask;
     return 4;
 }
 
-/* How far behind an item's first cell the one that a payload names lies. */
+/* How far after an item's first cell the one that a payload names lies. */
 static size_t row_offset(const uint8_t *payload)
 {
     if (payload[1] == ANALOG_INPUT) return (payload[2] - 1u) * PEER_ROW;
@@ -194,8 +200,8 @@ static size_t write_value(const struct peer_state *state, const uint8_t *payload
     const struct item *item = &items[payload[1]];
     size_t length = item->value_length;
     if (payload[1] == NAME)
-        length = strnlen((const char *)state->name, PEER_NAME - 1) + 1;
-    size_t cell = payload[0] == READ ? item->working : item->nv;
+        length = strnlen((const char *)state->stored.name, PEER_NAME - 1) + 1;
+    size_t cell = payload[0] == READ ? item->working : item->stored;
     memcpy(value, (const uint8_t *)state + cell + row_offset(payload), length);
     return length;
 }
@@ -207,8 +213,8 @@ static void store_value(struct peer_state *state, const uint8_t *payload)
     const uint8_t *value = payload + 2 + item->index_length;
     uint8_t *row = (uint8_t *)state + row_offset(payload);
     memcpy(row + item->working, value, item->value_length);
-    if (payload[0] == PROGRAM && item->nv != item->working)
-        memcpy(row + item->nv, value, item->value_length);
+    if (payload[0] == PROGRAM && item->stored != item->working)
+        memcpy(row + item->stored, value, item->value_length);
 }
 
 /* Carries out an accepted payload and writes the response's payload; its length. */
@@ -222,11 +228,11 @@ static size_t perform(struct peer_state *state, const uint8_t *payload, size_t l
         memcpy(answer + 1, payload + 1, length - 1);
         return length + write_value(state, payload, answer + length);
     case SET_DEFAULT:
-        state->nv = default_settings;
-        state->working = default_settings;
+        state->stored.settings = default_settings;
+        state->working.settings = default_settings;
         break;
     case ERASE_ALL_ADDRESSES:
-        memset(state->slots, 0, sizeof state->slots);
+        memset(state->stored.slots, 0, sizeof state->stored.slots);
         break;
     default:
         store_value(state, payload);

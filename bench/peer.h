@@ -23,13 +23,27 @@ struct peer_hardware_selection {
     uint8_t power, line_mask, latch_mask;
 };
 
-/* In the order of cdi.h's, so that two states can be compared byte by byte. */
-struct peer_state {
+/* The parts and their fields are in the order of cdi.h's, so that two states can be compared byte by
+ * byte. */
+struct peer_stored {
     uint8_t name[PEER_NAME], firmware[3], serial[4], address[4];
-    struct peer_settings nv, working;
+    struct peer_settings settings;
     uint8_t slots[PEER_SLOTS][PEER_ROW];
+};
+
+struct peer_working {
+    struct peer_settings settings;
+};
+
+struct peer_live {
     uint8_t lines[2], rssi[2], ladj, events, flags;
     struct peer_hardware_selection hardware;
+};
+
+struct peer_state {
+    struct peer_stored stored;
+    struct peer_working working;
+    struct peer_live live;
 };
 
 /* Document 01's number or 0, and the response's length, 0 on a refusal. */
@@ -40,7 +54,7 @@ struct peer_outcome {
 
 struct peer_state peer_factory(void);
 
-/* Executes one command block. A refusal changes no byte; bytes behind the response stay. */
+/* Executes one command block. A refusal changes no byte; bytes after the response stay. */
 struct peer_outcome peer_execute(struct peer_state *state, const uint8_t *block, size_t block_size,
                                  uint8_t *response, size_t response_size);
 
