@@ -9,6 +9,7 @@ import os
 import pathlib
 import platform
 import re
+import shutil
 import statistics
 import subprocess
 import sys
@@ -154,20 +155,30 @@ def growth(folder, plan):
 # ---- Single commands -------------------------------------------------------------------------
 
 
+def run_count(folder, library, calls, block, *before):
+    """What count.c prints for a block, and after it. Its stack is the same in each run and for both libraries: the
+    environment is empty, and the program is called by the same name, in a folder of its own."""
+    words = [*before, "./count", str(calls), *block.split()]
+    return output_of(words, cwd=calls_folder(folder, library), env={})
+
+
+def calls_folder(folder, library):
+    return folder / f"{library}_calls"
+
+
 def called(folder, library, calls, block):
     """What came of a block, in words, and the nanoseconds of a call."""
-    result, nanoseconds = output_of([folder / f"count_{library}", str(calls), *block.split()]).splitlines()
+    result, nanoseconds = run_count(folder, library, calls, block).splitlines()
     return result, float(nanoseconds)
 
 
 def instructions(folder, library, block):
     """Instructions from the entry of a call to its return, by callgrind; each call costs the same. Of memcpy
     and its like they are those of the variant that libc takes under valgrind."""
-    words = ["valgrind", "--tool=callgrind", f"--toggle-collect={library}_execute"]
-    made = str(folder).replace("%", "%%")  # valgrind takes a single one for a name of its own
-    words += [f"--callgrind-out-file={made}/callgrind.out", f"--log-file={made}/callgrind.log"]
-    output_of([*words, folder / f"count_{library}", str(COUNTED), *block.split()])
-    log = (folder / "callgrind.log").read_text(encoding="utf-8")
+    words = [shutil.which("valgrind"), "--tool=callgrind", f"--toggle-collect={library}_execute"]
+    words += ["--callgrind-out-file=callgrind.out", "--log-file=callgrind.log"]
+    run_count(folder, library, COUNTED, block, *words)
+    log = (calls_folder(folder, library) / "callgrind.log").read_text(encoding="utf-8")
     collected = re.search(r"Collected : (\d+)", log)
     total = int(collected[1]) if collected else 0
     if total == 0 or total % COUNTED != 0:
