@@ -184,12 +184,13 @@ Settings = namedtuple(
 # The three values that the hardware picks.
 HardwareSelection = namedtuple("HardwareSelection", "power line_mask latch_mask")
 
-# 01's "module record". Cells of one byte are numbers, longer ones bytes, the slots a tuple of
+# 01's "module record", by the kinds of cells in the item list: the N cells and the slots, the V
+# cells, and the live cells. Cells of one byte are numbers, longer ones bytes, the slots a tuple of
 # forty times five bytes.
-ModuleState = namedtuple(
-    "ModuleState",
-    "name firmware serial address nv working slots lines rssi ladj events flags hardware",
-)
+Stored = namedtuple("Stored", "name firmware serial address settings slots")
+Working = namedtuple("Working", "settings")
+Live = namedtuple("Live", "lines rssi ladj events flags hardware")
+ModuleState = namedtuple("ModuleState", "stored working live")
 
 SLOTS = 40
 EMPTY_SLOT = bytes(5)
@@ -208,19 +209,23 @@ DEFAULT_SETTINGS = Settings(
 
 # The factory record.
 FACTORY_STATE = ModuleState(
-    name=bytes(17),
-    firmware=bytes(3),
-    serial=bytes(4),
-    address=bytes(4),
-    nv=DEFAULT_SETTINGS,
-    working=DEFAULT_SETTINGS,
-    slots=SLOTS * (EMPTY_SLOT,),
-    lines=bytes(2),
-    rssi=RSSI_AT_START,
-    ladj=0x00,
-    events=0x00,
-    flags=0x00,
-    hardware=HardwareSelection(power=0x00, line_mask=0x00, latch_mask=0x00),
+    stored=Stored(
+        name=bytes(17),
+        firmware=bytes(3),
+        serial=bytes(4),
+        address=bytes(4),
+        settings=DEFAULT_SETTINGS,
+        slots=SLOTS * (EMPTY_SLOT,),
+    ),
+    working=Working(settings=DEFAULT_SETTINGS),
+    live=Live(
+        lines=bytes(2),
+        rssi=RSSI_AT_START,
+        ladj=0x00,
+        events=0x00,
+        flags=0x00,
+        hardware=HardwareSelection(power=0x00, line_mask=0x00, latch_mask=0x00),
+    ),
 )
 
 
@@ -246,14 +251,21 @@ def is_valid_flags(flags):
     return flags & 0b111 <= 4 and all(flags >> bit & 1 == 0 for bit in (3, 6, 7))
 
 
+def is_valid_stored(stored):
+    """The nonvolatile cells are valid, as an image's contents have to be: name, settings, slots."""
+    return (
+        0x00 in stored.name
+        and is_valid_settings(stored.settings)
+        and are_valid_slots(stored.slots)
+    )
+
+
 def is_valid(state):
     """01's "sound": name, both copies of the settings, slots and flags."""
     return (
-        0x00 in state.name
-        and is_valid_settings(state.nv)
-        and is_valid_settings(state.working)
-        and are_valid_slots(state.slots)
-        and is_valid_flags(state.flags)
+        is_valid_stored(state.stored)
+        and is_valid_settings(state.working.settings)
+        and is_valid_flags(state.live.flags)
     )
 
 
@@ -284,12 +296,12 @@ def name_value(name):
 
 def status_value(state):
     """01, "Item 23": flags, power, line mask and latch mask."""
-    working, hardware = state.working, state.hardware
+    working, live, hardware = state.working.settings, state.live, state.live.hardware
     control = working.control_source
-    interrupt = 0x80 if state.events & working.interrupt_mask else 0x00
+    interrupt = 0x80 if live.events & working.interrupt_mask else 0x00
     return bytes(
         [
-            state.flags & 0x7F | interrupt,
+            live.flags & 0x7F | interrupt,
             working.tx_power if control >> 0 & 1 else hardware.power,
             working.line_mask if control >> 3 & 1 else hardware.line_mask,
             working.latch_mask if control >> 4 & 1 else hardware.latch_mask,
@@ -300,22 +312,24 @@ def status_value(state):
 def read_value(state, command, item, index):
     """The value that an accepted Read or Read NV answers; an item without a working cell gives
     Read its nonvolatile one."""
+    stored, working, live = state
     if item in SETTINGS_ITEMS:
-        return setting_value(state.nv if command == READ_NV else state.working, item, index)
+        part = stored if command == READ_NV else working
+        return setting_value(part.settings, item, index)
     if item == 0x01:
-        return name_value(state.name)
+        return name_value(stored.name)
     if item == 0x18:
-        return state.slots[index]
+        return stored.slots[index]
     if item == 0x23:
         return status_value(state)
     return {
-        0x02: state.firmware,
-        0x03: state.serial,
-        0x10: state.address,
-        0x20: state.lines,
-        0x21: state.rssi,
-        0x22: bytes([state.ladj]),
-        0x26: bytes([state.events]),
+        0x02: stored.firmware,
+        0x03: stored.serial,
+        0x10: stored.address,
+        0x20: live.lines,
+        0x21: live.rssi,
+        0x22: bytes([live.ladj]),
+        0x26: bytes([live.events]),
     }[item]
 
 
@@ -339,28 +353,36 @@ def store_value(state, command, item, index, value):
     """The state after an accepted Write, which stores the working cell alone, or Program, which
     stores that cell where there is one and the nonvolatile cell or the slot."""
     if item == 0x10:
-        return state._replace(address=value)
+        return with_stored(state, address=value)
     if item == 0x18:
-        return state._replace(slots=with_row(state.slots, index, value))
-    state = state._replace(working=with_setting(state.working, item, index, value))
+        return with_stored(state, slots=with_row(state.stored.slots, index, value))
+    working = with_setting(state.working.settings, item, index, value)
+    state = state._replace(working=Working(working))
     if command == PROGRAM:
-        state = state._replace(nv=with_setting(state.nv, item, index, value))
+        state = with_stored(state, settings=with_setting(state.stored.settings, item, index, value))
     return state
+
+
+def with_stored(state, **cells):
+    """The state with some of the stored part replaced."""
+    return state._replace(stored=state.stored._replace(**cells))
 
 
 def set_default(state):
     """The state after 81: both copies of the settings."""
-    return state._replace(nv=DEFAULT_SETTINGS, working=DEFAULT_SETTINGS)
+    state = with_stored(state, settings=DEFAULT_SETTINGS)
+    return state._replace(working=Working(DEFAULT_SETTINGS))
 
 
 def erase_all_addresses(state):
     """The state after 82: every slot is empty."""
-    return state._replace(slots=SLOTS * (EMPTY_SLOT,))
+    return with_stored(state, slots=SLOTS * (EMPTY_SLOT,))
 
 
 def powered_up(state):
     """The state after a power-up: settings copied, RSSI, flags and events at their start."""
-    return state._replace(working=state.nv, rssi=RSSI_AT_START, flags=0x00, events=0x00)
+    live = state.live._replace(rssi=RSSI_AT_START, flags=0x00, events=0x00)
+    return state._replace(working=Working(state.stored.settings), live=live)
 
 
 def power_up(state):
@@ -376,7 +398,7 @@ def power_up(state):
 def validate_payload(payload):
     """The refusal of a payload, or 0.
 
-    3 where it is empty; then 7; 8 if it has no item or goes on behind 81 or 82; 9; 10; 8 for
+    3 where it is empty; then 7; 8 if it has no item or goes on after 81 or 82; 9; 10; 8 for
     every other length; 11; 12.
     """
     if len(payload) == 0:
@@ -510,15 +532,15 @@ IMAGE_HEAD = len(IMAGE_MARK) + len(IMAGE_VERSION)
 
 def image_of(state):
     """Mark, version, then the nonvolatile cells in item order."""
-    nv = state.nv
+    stored, nv = state.stored, state.stored.settings
     cells = (
-        state.name,
-        state.firmware,
-        state.serial,
-        state.address,
+        stored.name,
+        stored.firmware,
+        stored.serial,
+        stored.address,
         bytes([nv.line_mask, nv.latch_mask, nv.tx_power, nv.control_source, nv.message_select]),
         b"".join(nv.analog_inputs),
-        b"".join(state.slots),
+        b"".join(stored.slots),
         bytes([nv.interrupt_mask]),
     )
     return IMAGE_MARK + IMAGE_VERSION + b"".join(cells)
@@ -533,24 +555,19 @@ def cut(content, sizes):
     return parts
 
 
-def with_image(state, image):
-    """The state with its nonvolatile cells, in item order, replaced by those of an image."""
+def stored_of(image):
+    """The nonvolatile cells that an image holds in item order."""
     sizes = (17, 3, 4, 4, 5, 5, 5, SLOTS * 5, 1)
     parts = cut(image[IMAGE_HEAD:], sizes)
     name, firmware, serial, address, one_byte, first_row, second_row, slots, mask = parts
-    return state._replace(
+    return Stored(
         name=name,
         firmware=firmware,
         serial=serial,
         address=address,
-        nv=Settings(*one_byte, (first_row, second_row), *mask),
+        settings=Settings(*one_byte, (first_row, second_row), *mask),
         slots=tuple(cut(slots, SLOTS * (5,))),
     )
-
-
-def holds_valid_image(state):
-    """The contents of the image are valid: name, nonvolatile settings and slots."""
-    return 0x00 in state.name and is_valid_settings(state.nv) and are_valid_slots(state.slots)
 
 
 def save(state, image):
@@ -574,10 +591,10 @@ def load(state, image):
         return state, MARK_WRONG
     if image[len(IMAGE_MARK) : IMAGE_HEAD] != IMAGE_VERSION:
         return state, VERSION_WRONG
-    loaded = with_image(state, image)
-    if not holds_valid_image(loaded):
+    stored = stored_of(image)
+    if not is_valid_stored(stored):
         return state, INVALID
-    return powered_up(loaded), ACCEPTED
+    return powered_up(state._replace(stored=stored)), ACCEPTED
 
 
 # ---- 01, "Examples", the replay program's lines ----------------------------------------------

@@ -23,14 +23,16 @@ SETTINGS = struct(
     interrupt_mask=BYTE,
 )
 HARDWARE_SELECTION = struct(power=BYTE, line_mask=BYTE, latch_mask=BYTE)
-STATE = struct(
+STORED = struct(
     name=17 * BYTE,
     firmware=3 * BYTE,
     serial=4 * BYTE,
     address=4 * BYTE,
-    nv=SETTINGS,
-    working=SETTINGS,
+    settings=SETTINGS,
     slots=40 * SLOT,
+)
+WORKING = struct(settings=SETTINGS)
+LIVE = struct(
     lines=2 * BYTE,
     rssi=2 * BYTE,
     ladj=BYTE,
@@ -38,6 +40,7 @@ STATE = struct(
     flags=BYTE,
     hardware=HARDWARE_SELECTION,
 )
+STATE = struct(stored=STORED, working=WORKING, live=LIVE)
 STATE_SIZE = ctypes.sizeof(STATE)
 
 
@@ -58,12 +61,13 @@ def pack(part, layout):
 
 
 def field_spans(layout):
-    """Each field's name, first byte, byte behind it, and layout."""
+    """Each field's name, first byte, the byte after it, and layout."""
     starts = [(name, getattr(layout, name).offset, kind) for name, kind in layout._fields_]
     return [(name, start, start + ctypes.sizeof(kind), kind) for name, start, kind in starts]
 
 
-SPANS = {layout: field_spans(layout) for layout in (STATE, SETTINGS, HARDWARE_SELECTION)}
+PARTS = STATE, STORED, WORKING, LIVE, SETTINGS, HARDWARE_SELECTION
+SPANS = {layout: field_spans(layout) for layout in PARTS}
 
 
 def unpacked(raw, like=FACTORY_STATE, layout=STATE):
@@ -82,8 +86,8 @@ def unpacked(raw, like=FACTORY_STATE, layout=STATE):
 
 
 def place(path):
-    """Where a part of a state begins, as `flags` or `nv.analog_inputs.1.channel`; rows count
-    from 0."""
+    """Where a part of a state begins, as `live.flags` or `stored.settings.analog_inputs.1.channel`;
+    rows count from 0."""
     at, layout = 0, STATE
     for word in path.split("."):
         if word.isdigit():
@@ -104,17 +108,28 @@ def changed(state, changes):
     return unpacked(raw)
 
 
-def with_byte(state, at, byte):
-    """A state with one byte replaced; only the field that holds it is made anew."""
-    name, start, end, kind = span_at(at)
-    raw = packed(state)
-    field = raw[start:at] + bytes([byte]) + raw[at + 1 : end]
-    return state._replace(**{name: unpacked(field, getattr(state, name), kind)})
+def with_byte(part, at, byte, layout=STATE):
+    """A state, or a part of one, with one byte replaced; only the fields that hold it are made
+    anew."""
+    if layout not in SPANS:
+        raw = pack(part, layout)
+        return unpacked(raw[:at] + bytes([byte]) + raw[at + 1 :], part, layout)
+    name, start, _, kind = span_at(at, layout)
+    return part._replace(**{name: with_byte(getattr(part, name), at - start, byte, kind)})
 
 
-def span_at(at):
-    """The field of a state that holds a byte."""
-    return next(span for span in SPANS[STATE] if at < span[2])
+def span_at(at, layout):
+    """The field of a state, or of a part of one, that holds a byte."""
+    return next(span for span in SPANS[layout] if at < span[2])
+
+
+def field_at(at, layout=STATE):
+    """The path of the field that holds a byte, as `place` takes it, and the byte's place in it."""
+    name, start, _, kind = span_at(at, layout)
+    if kind not in SPANS:
+        return name, at - start
+    path, inside = field_at(at - start, kind)
+    return f"{name}.{path}", inside
 
 
 def first_place(raw, other):
@@ -128,8 +143,8 @@ def first_difference(raw, other):
     at = first_place(raw, other)
     if at >= STATE_SIZE:
         return f"the length, {len(raw)} and {len(other)} bytes"
-    name, start, _, _ = span_at(at)
-    return f"byte {at - start} of {name}"
+    path, inside = field_at(at)
+    return f"byte {inside} of {path}"
 
 
 # ---- A state whose bytes are known -----------------------------------------------------------
@@ -145,26 +160,29 @@ FILLED_SLOTS = " ".join(f"{index + 1:02X} 00 00 00 {index + 0xC0:02X}" for index
 FILLED = changed(
     FACTORY_STATE,
     {
-        "name": FILLED_NAME,
-        "firmware": "F1 F2 F3",
-        "serial": "D1 D2 D3 D4",
-        "address": "A1 A2 A3 A4",
-        "nv": FILLED_NV,
-        "working": "92 94 0A 00 03 06 10 00 34 01 FE 02 00 34 02 96",
-        "slots": FILLED_SLOTS,
-        "lines": "B1 B2",
-        "rssi": "C1 C2",
-        "ladj": "5C",
-        "events": "0F",
-        "flags": "31",
-        "hardware": "77 66 55",
+        "stored.name": FILLED_NAME,
+        "stored.firmware": "F1 F2 F3",
+        "stored.serial": "D1 D2 D3 D4",
+        "stored.address": "A1 A2 A3 A4",
+        "stored.settings": FILLED_NV,
+        "stored.slots": FILLED_SLOTS,
+        "working.settings": "92 94 0A 00 03 06 10 00 34 01 FE 02 00 34 02 96",
+        "live.lines": "B1 B2",
+        "live.rssi": "C1 C2",
+        "live.ladj": "5C",
+        "live.events": "0F",
+        "live.flags": "31",
+        "live.hardware": "77 66 55",
     },
 )
 
-# What a power-up changes in it, and in any state once the working copy is that of NV.
-START = {"rssi": "80 80", "events": "00", "flags": "00"}
+# What a power-up changes in it, and in any state once the working settings are the stored ones.
+START = {"live.rssi": "80 80", "live.events": "00", "live.flags": "00"}
 
 # ---- The limits of validity ------------------------------------------------------------------
+
+# The two copies of the settings.
+COPIES = "stored.settings", "working.settings"
 
 # The bytes next to the limits of each cell of the settings, refused and accepted.
 SETTINGS_LIMITS = (
@@ -191,7 +209,7 @@ FLAGS_LIMITS = (
 
 def settings_edges():
     """A change of one byte of one copy of the settings, and whether it leaves a state valid."""
-    for copy in ("nv", "working"):
+    for copy in COPIES:
         for name, refused, accepted in SETTINGS_LIMITS:
             for byte in refused.split():
                 yield {f"{copy}.{name}": byte}, False
@@ -203,26 +221,26 @@ def flags_edges():
     """The same of the flags."""
     refused, accepted = FLAGS_LIMITS
     for byte in refused.split():
-        yield {"flags": byte}, False
+        yield {"live.flags": byte}, False
     for byte in accepted.split():
-        yield {"flags": byte}, True
+        yield {"live.flags": byte}, True
 
 
 def name_edges():
     """The same of the name: a single 00 at each place, and another byte in its stead."""
     for at in range(17):
-        yield {"name": 17 * "41", f"name.{at}": "00"}, True
+        yield {"stored.name": 17 * "41", f"stored.name.{at}": "00"}, True
         for byte in ("01", "80", "FF"):
-            yield {"name": 17 * "41", f"name.{at}": byte}, False
+            yield {"stored.name": 17 * "41", f"stored.name.{at}": byte}, False
 
 
 def slot_edges():
     """The same of each slot alone: a zero address with a mask, where all slots were empty or this
     one had an address, and addresses with a single byte that isn't 00."""
-    empty = {"slots": 200 * "00"}
+    empty = {"stored.slots": 200 * "00"}
     yield empty, True
     for index in range(40):
-        slot = f"slots.{index}"
+        slot = f"stored.slots.{index}"
         for mask in ("01", "80", "FF"):
             yield {**empty, f"{slot}.mask": mask}, False
         yield {f"{slot}.address": "00 00 00 00"}, False
@@ -259,12 +277,13 @@ def random_state(rng):
     """A valid state."""
     name = bytes(rng.randrange(1, 256) for _ in range(rng.randrange(17))) + b"\x00"
     state = unpacked(rng.randbytes(STATE_SIZE))
-    return state._replace(
-        name=name + state.name[len(name) :],
-        nv=random_settings(rng),
-        working=random_settings(rng),
-        slots=tuple(accepted_value(rng, 0x18) for _ in range(40)),
-        flags=random_flags(rng),
+    name += state.stored.name[len(name) :]
+    nv, working = random_settings(rng), random_settings(rng)
+    slots = tuple(accepted_value(rng, 0x18) for _ in range(40))
+    return reference.ModuleState(
+        stored=state.stored._replace(name=name, settings=nv, slots=slots),
+        working=reference.Working(working),
+        live=state.live._replace(flags=random_flags(rng)),
     )
 
 
@@ -276,13 +295,13 @@ def random_bytes_state(rng):
 def random_invalid_state(rng):
     """A state that is invalid in one part, or one of random bytes."""
     state = random_state(rng)
-    copy, (name, refused, _) = rng.choice(("nv", "working")), rng.choice(SETTINGS_LIMITS[:9])
+    copy, (name, refused, _) = rng.choice(COPIES), rng.choice(SETTINGS_LIMITS[:9])
     changes = (
         {f"{copy}.{name}": rng.choice(refused.split())},
-        {"flags": rng.choice(FLAGS_LIMITS[0].split())},
-        {f"slots.{rng.choice((0, 39, rng.randrange(40)))}": "00 00 00 00 01"},
-        {"name": bytes(rng.randrange(1, 256) for _ in range(17)).hex()},
-        {"name": rng.randbytes(STATE_SIZE).hex()},
+        {"live.flags": rng.choice(FLAGS_LIMITS[0].split())},
+        {f"stored.slots.{rng.choice((0, 39, rng.randrange(40)))}": "00 00 00 00 01"},
+        {"stored.name": bytes(rng.randrange(1, 256) for _ in range(17)).hex()},
+        {"stored": rng.randbytes(STATE_SIZE).hex()},
     )
     return changed(state, rng.choice(changes))
 
@@ -295,12 +314,5 @@ def any_state(rng):
 def with_live_cells(rng, state):
     """The state with other live cells, as the hardware changes them; the flags are mostly valid."""
     flags = random_flags(rng) if rng.random() < 0.9 else rng.randrange(256)
-    live = unpacked(rng.randbytes(STATE_SIZE))
-    return state._replace(
-        lines=live.lines,
-        rssi=live.rssi,
-        ladj=live.ladj,
-        events=live.events,
-        flags=flags,
-        hardware=live.hardware,
-    )
+    live = unpacked(rng.randbytes(STATE_SIZE)).live
+    return state._replace(live=live._replace(flags=flags))

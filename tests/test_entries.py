@@ -29,6 +29,7 @@ from payloads import (
 )
 from reference import FACTORY_STATE, PROGRAM, READ, READ_NV, WRITE
 from states import (
+    COPIES,
     DEFAULTS,
     FILLED,
     FILLED_NAME,
@@ -344,7 +345,7 @@ def check_examples(compare, rng):
 
 # ---- Closed runs -----------------------------------------------------------------------------
 
-FACTORY = 28 * "00" + DEFAULTS + DEFAULTS + 200 * "00" + "00 00 80 80" + 6 * "00"
+FACTORY = 28 * "00" + DEFAULTS + 200 * "00" + DEFAULTS + "00 00 80 80" + 6 * "00"
 
 # On the filled state: an item with its index, what Read answers, and Read NV, or its refusal.
 SHOWN = (
@@ -371,40 +372,51 @@ SHOWN = (
 
 # On the filled state: a block, the response, and what is stored.
 STORED = (
-    ("80 55 83 02 13 F0", "80 55 85 C0 00 02 13 F0", {"working.tx_power": "F0"}),
+    ("80 55 83 02 13 F0", "80 55 85 C0 00 02 13 F0", {"working.settings.tx_power": "F0"}),
     (
         "80 55 83 04 13 F0",
         "80 55 85 C0 00 04 13 F0",
-        {"working.tx_power": "F0", "nv.tx_power": "F0"},
+        {"working.settings.tx_power": "F0", "stored.settings.tx_power": "F0"},
     ),
     (
         "80 FF 55 83 04 25 81",
         "80 55 85 C0 00 04 25 81",
-        {"working.interrupt_mask": "81", "nv.interrupt_mask": "81"},
+        {"working.settings.interrupt_mask": "81", "stored.settings.interrupt_mask": "81"},
     ),
     (
         "80 55 88 02 16 01 07 0A 01 FF FE",
         "80 55 8A C0 00 02 16 01 07 0A 01 FF FE",
-        {"working.analog_inputs.0": "07 0A 01 FF FE"},
+        {"working.settings.analog_inputs.0": "07 0A 01 FF FE"},
     ),
     (
         "80 55 88 04 16 02 07 0A 01 FF FE",
         "80 55 8A C0 00 04 16 02 07 0A 01 FF FE",
-        {"working.analog_inputs.1": "07 0A 01 FF FE", "nv.analog_inputs.1": "07 0A 01 FF FE"},
+        {
+            "working.settings.analog_inputs.1": "07 0A 01 FF FE",
+            "stored.settings.analog_inputs.1": "07 0A 01 FF FE",
+        },
     ),
-    ("80 55 86 04 10 FF FF FF FF", "80 55 88 C0 00 04 10 FF FF FF FF", {"address": "FF FF FF FF"}),
+    (
+        "80 55 86 04 10 FF FF FF FF",
+        "80 55 88 C0 00 04 10 FF FF FF FF",
+        {"stored.address": "FF FF FF FF"},
+    ),
     (
         "80 55 88 04 18 27 09 08 07 06 05",
         "80 55 8A C0 00 04 18 27 09 08 07 06 05",
-        {"slots.39": "09 08 07 06 05"},
+        {"stored.slots.39": "09 08 07 06 05"},
     ),
     (
         "80 55 88 04 18 00 00 00 00 00 00",
         "80 55 8A C0 00 04 18 00 00 00 00 00 00",
-        {"slots.0": "00 00 00 00 00"},
+        {"stored.slots.0": "00 00 00 00 00"},
     ),
-    ("80 55 81 81", "80 55 83 C0 00 81", {"nv": DEFAULTS, "working": DEFAULTS}),
-    ("80 55 81 82", "80 55 83 C0 00 82", {"slots": 200 * "00"}),
+    (
+        "80 55 81 81",
+        "80 55 83 C0 00 81",
+        {"stored.settings": DEFAULTS, "working.settings": DEFAULTS},
+    ),
+    ("80 55 81 82", "80 55 83 C0 00 82", {"stored.slots": 200 * "00"}),
 )
 
 
@@ -449,14 +461,14 @@ NAME_LENGTH_BYTES = ("83", "84", "92", "93")
 def check_names(compare, rng):
     """The shapes of a name, in buffers of every size that is enough."""
     for (name, shown), length_byte in zip(NAMES, NAME_LENGTH_BYTES):
-        state = changed(FILLED, {"name": name})
+        state = changed(FILLED, {"stored.name": name})
         for size, (read, code) in itertools.product(range(22, 41), (("01", "C1"), ("03", "C2"))):
             response = f"80 55 {length_byte} {code} 01 {shown}"
             compare.literal(state, f"80 55 82 {read} 01", response, {}, response=FILLER[:size])
     for at in range(17):  # a single 00 at each place, and one at each place before another
-        state = changed(FILLED, {"name": 17 * "41", f"name.{at}": "00"})
+        state = changed(FILLED, {"stored.name": 17 * "41", f"stored.name.{at}": "00"})
         compare.execute(state, b"\x80\x55\x82\x01\x01", FILLER[:22])
-        state = changed(state, {"name.16": "00"})
+        state = changed(state, {"stored.name.16": "00"})
         compare.execute(state, b"\x80\x55\x82\x03\x01", FILLER[:22])
 
 
@@ -497,29 +509,28 @@ def check_status(compare, rng):
     for flags, selections in itertools.product(STATUS_FLAGS, STATUS_SELECTIONS):
         live, events, mask, first = flags
         control, rest = selections
-        cells = {"flags": live, "events": events, "working.interrupt_mask": mask}
-        before = changed(FILLED, cells)
+        cells = {"live.flags": live, "live.events": events, "working.settings.interrupt_mask": mask}
+        before, source = changed(FILLED, cells), {"working.settings.control_source": control}
         wanted = f"80 55 86 C1 23 {first} {rest}"
-        state = changed(before, {"working.control_source": control})
-        compare.literal(state, "80 55 82 01 23", wanted, {})
+        compare.literal(changed(before, source), "80 55 82 01 23", wanted, {})
         block, response = f"80 55 83 02 14 {control}", f"80 55 85 C0 00 02 14 {control}"
-        after = compare.literal(before, block, response, {"working.control_source": control})
+        after = compare.literal(before, block, response, source)
         compare.literal(after, "80 55 82 01 23", wanted, {})
 
 
 def check_power_up(compare, rng):
     """The working cells are those of the nonvolatile copy, RSSI is 80 80, flags and events are
     00, and nothing else changes."""
-    changes = {"working": FILLED_NV, **START}
+    changes = {"working.settings": FILLED_NV, **START}
     compare.literal_power_up(FILLED, 0, changes)
     compare.literal_power_up(changed(FILLED, changes), 0)
     compare.literal_power_up(FACTORY_STATE, 0)
     for at, byte in enumerate(FILLED_NV.split()):  # each byte of either copy alone
         words = DEFAULTS.split()
         words[at] = byte
-        for copy, after in (("nv", " ".join(words)), ("working", DEFAULTS)):
+        for copy, after in zip(COPIES, (" ".join(words), DEFAULTS)):
             state = changed(FACTORY_STATE, {copy: " ".join(words)})
-            compare.literal_power_up(state, 0, {"working": after})
+            compare.literal_power_up(state, 0, {"working.settings": after})
 
 
 # ---- The stored image ------------------------------------------------------------------------
@@ -528,14 +539,14 @@ IMAGE_HEAD = "53 57 42 00 01"  # SWB, 0001
 
 # What the image holds of the filled state, part by part, and what a load of it changes.
 FILLED_CELLS = {
-    "name": FILLED_NAME,
-    "firmware": "F1 F2 F3",
-    "serial": "D1 D2 D3 D4",
-    "address": "A1 A2 A3 A4",
-    "nv": FILLED_NV,
-    "slots": FILLED_SLOTS,
+    "stored.name": FILLED_NAME,
+    "stored.firmware": "F1 F2 F3",
+    "stored.serial": "D1 D2 D3 D4",
+    "stored.address": "A1 A2 A3 A4",
+    "stored.settings": FILLED_NV,
+    "stored.slots": FILLED_SLOTS,
 }
-FILLED_LOAD = {**FILLED_CELLS, "working": FILLED_NV, **START}
+FILLED_LOAD = {**FILLED_CELLS, "working.settings": FILLED_NV, **START}
 FILLED_IMAGE = bytes.fromhex(
     f"{IMAGE_HEAD} {FILLED_NAME} F1 F2 F3 D1 D2 D3 D4 A1 A2 A3 A4"
     " 91 93 EC 1F 05 04 0F 01 12 01 05 0E 01 12 02"
@@ -549,8 +560,10 @@ FACTORY_IMAGE = bytes.fromhex(
 FOUND = (
     FACTORY_STATE,
     FILLED,
-    changed(FILLED, {"flags": "05"}),
-    changed(FILLED, {"working.tx_power": "80", "nv.control_source": "FF"}),
+    changed(FILLED, {"live.flags": "05"}),
+    changed(
+        FILLED, {"working.settings.tx_power": "80", "stored.settings.control_source": "FF"}
+    ),
     *(unpacked(STATE_SIZE * bytes([byte])) for byte in (0x00, 0x5A, 0xFF)),
 )
 
@@ -590,7 +603,7 @@ def check_image(compare, rng):
     for buffer in (bytes(249), 249 * b"\xff", rng.randbytes(249), FILLED_IMAGE):
         compare.literal_save(FILLED, buffer, FILLED_IMAGE)
         compare.literal_save(FACTORY_STATE, buffer, FACTORY_IMAGE)
-    factory = {"name": 28 * "00", "nv": DEFAULTS, "working": DEFAULTS, "slots": 200 * "00"}
+    factory = {"stored": 28 * "00" + DEFAULTS + 200 * "00", "working": DEFAULTS}
     for state in FOUND:
         compare.literal_load(state, FILLED_IMAGE, 0, FILLED_LOAD)
         compare.literal_load(state, FACTORY_IMAGE, 0, {**factory, **START})
@@ -672,7 +685,7 @@ REFUSED_BLOCKS = (
     ("80 55 83 01 16 00", 11),
     ("80 55 83 02 15 07", 12),
 )
-NO_MODE = changed(FILLED, {"flags": "05"})
+NO_MODE = changed(FILLED, {"live.flags": "05"})
 
 
 def check_short_buffers(compare, rng):
@@ -701,20 +714,20 @@ def refused_state(compare, state):
 
 def accepted_state(compare, state):
     """A valid state: a command, a power-up and a save are accepted."""
-    compare.literal(changed(state, {"ladj": "5C"}), READ_LADJ, LADJ, {})
-    nv = packed(state)[place("nv") :][:16].hex()
-    compare.literal_power_up(state, 0, {"working": nv, **START})
+    compare.literal(changed(state, {"live.ladj": "5C"}), READ_LADJ, LADJ, {})
+    nv = packed(state)[place("stored.settings") :][:16].hex()
+    compare.literal_power_up(state, 0, {"working.settings": nv, **START})
     refusal, length, image = compare.save(state, bytes(249))
     compare.same("a save", (0, 249), (refusal, length), state=packed(state))
-    compare.literal_load(state, image, 0, {"working": nv, **START})
+    compare.literal_load(state, image, 0, {"working.settings": nv, **START})
 
 
 def check_edges(compare, edges):
     for changes, valid in edges:
         state = changed(FILLED, changes)
         (accepted_state if valid else refused_state)(compare, state)
-        # the image alone doesn't tell of the working copy and of the flags
-        image_valid = valid or next(iter(changes)).startswith(("working", "flags"))
+        # an image holds the stored part alone
+        image_valid = valid or not next(iter(changes)).startswith("stored.")
         _, refusal = compare.load(FACTORY_STATE, reference.image_of(state))
         compare.same("an image", 0 if image_valid else 2, refusal, state=packed(state))
 
@@ -739,7 +752,7 @@ def check_every_byte(compare, rng):
     """Each byte of two states by itself, with each value: a power-up, a save and, for some of
     them, a block judge the state alike."""
     block, buffer = bytes.fromhex("80 55 82 01 23"), rng.randbytes(22)
-    slots = range(place("slots"), place("lines"))
+    slots = range(place("stored.slots"), place("working"))
     for before, at in itertools.product((FILLED, FACTORY_STATE), range(STATE_SIZE)):
         for byte in SOME_BYTES if at in slots else range(256):
             state = with_byte(before, at, byte)

@@ -22,7 +22,7 @@ import reference
 from library import ROOT, Problem, load, run_test, sdk
 from payloads import frame
 from reference import FACTORY_STATE
-from states import FILLED, changed, packed
+from states import COPIES, FILLED, changed, packed
 from test_entries import FILLED_IMAGE, FILLER, NO_MODE, SIGNATURES, Comparison, with_bytes
 from test_replay import REPLAY, dump, fill_cells, log_of, run_on_file, runnable, text_of
 from test_replay import Comparison as Replays
@@ -275,14 +275,20 @@ GOOD_INPUTS = ("04 01 00 00 00", "07 10 01 7F FF", "FE 01 00 80 00", "FF 10 01 F
 BAD_SLOTS = ("00 00 00 00 01", "00 00 00 00 80", "00 00 00 00 FF")
 GOOD_SLOTS = ("00 00 00 00 00", "00 00 00 01 00", "01 00 00 00 FF", "FF FF FF FF 00")
 
-# Where a value stands: behind the first bytes of commands (12), in fields of a state (2), and from
+
+def both_copies(setting):
+    """The two fields of a state that hold a setting."""
+    return tuple(f"{copy}.{setting}" for copy in COPIES)
+
+
+# Where a value stands: after the first bytes of commands (12), in fields of a state (2), and from
 # a place of an image on (2); and which values are refused and accepted there.
 Limit = collections.namedtuple("Limit", "commands fields image refused accepted")
 LIMITS = (
     # a signed byte, -20 to +10
     Limit(
         ("02 13", "04 13"),
-        ("nv.tx_power", "working.tx_power"),
+        both_copies("tx_power"),
         35,
         ("EB", "80", "7F", "0C", "0B"),
         ("EC", "FF", "00", "0A"),
@@ -290,49 +296,50 @@ LIMITS = (
     # bits 5 to 7 zero
     Limit(
         ("02 14", "04 14"),
-        ("nv.control_source", "working.control_source"),
+        both_copies("control_source"),
         36,
         ("20", "40", "80", "3F"),
         ("00", "1F"),
     ),
     Limit(
         ("02 15", "04 15"),
-        ("nv.message_select", "working.message_select"),
+        both_copies("message_select"),
         37,
         ("07", "FF"),
         ("00", "06"),
     ),
     Limit(
         ("02 16 01", "04 16 01"),
-        ("nv.analog_inputs.0", "working.analog_inputs.0"),
+        both_copies("analog_inputs.0"),
         38,
         BAD_INPUTS,
         GOOD_INPUTS,
     ),
     Limit(
         ("02 16 02", "04 16 02"),
-        ("nv.analog_inputs.1", "working.analog_inputs.1"),
+        both_copies("analog_inputs.1"),
         43,
         BAD_INPUTS,
         GOOD_INPUTS,
     ),
-    Limit(("04 18 00",), ("slots.0",), 48, BAD_SLOTS, GOOD_SLOTS),
-    Limit(("04 18 27",), ("slots.39",), 243, BAD_SLOTS, GOOD_SLOTS),
+    Limit(("04 18 00",), ("stored.slots.0",), 48, BAD_SLOTS, GOOD_SLOTS),
+    Limit(("04 18 27",), ("stored.slots.39",), 243, BAD_SLOTS, GOOD_SLOTS),
     # the name needs a 00, wherever it stands; no command stores it
-    Limit((), ("name",), 5, (17 * "41",), (16 * "41" + "00", "00" + 16 * "41")),
+    Limit((), ("stored.name",), 5, (17 * "41",), (16 * "41" + "00", "00" + 16 * "41")),
     # mode 0 to 4 in bits 0 to 2, and bits 4 and 5 free; no part of an image
-    Limit((), ("flags",), None, ("05", "07", "08", "40", "80"), ("04", "30", "34")),
+    Limit((), ("live.flags",), None, ("05", "07", "08", "40", "80"), ("04", "30", "34")),
     # no limits: firmware, serial and address; 11 and 12; 25; lines, RSSI, LADJ and events; hardware
-    Limit((), ("firmware",), 22, (), (11 * "FF",)),
-    Limit((), ("nv.line_mask", "working.line_mask"), 33, (), ("FF FF",)),
-    Limit((), ("nv.interrupt_mask", "working.interrupt_mask"), 248, (), ("FF",)),
-    Limit((), ("lines",), None, (), (6 * "FF",)),
-    Limit((), ("hardware",), None, (), ("FF FF FF",)),
+    Limit((), ("stored.firmware",), 22, (), (11 * "FF",)),
+    Limit((), both_copies("line_mask"), 33, (), ("FF FF",)),
+    Limit((), both_copies("interrupt_mask"), 248, (), ("FF",)),
+    Limit((), ("live.lines",), None, (), (6 * "FF",)),
+    Limit((), ("live.hardware",), None, (), ("FF FF FF",)),
 )
 
 LONGEST = "04 18 27 01 02 03 04 05"  # with 16 wake bytes it fills 27 bytes
 READ_NAME = "80 55 82 01 01"
-FULL_NAME = changed(FILLED, {"name": 16 * "41" + "00"})  # the response to its Read fills 22 bytes
+# The response to its Read fills 22 bytes.
+FULL_NAME = changed(FILLED, {"stored.name": 16 * "41" + "00"})
 UNMARKED = tuple(with_bytes(FILLED_IMAGE, {at: "77"}) for at in range(3))  # a small w in SWB
 OTHER_VERSIONS = tuple(
     with_bytes(FILLED_IMAGE, {3: text}) for text in ("00 00", "00 02", "01 00", "01 01", "FF FF")
