@@ -6,7 +6,6 @@ pub mod Fit
 pub mod Kept
 pub mod Laws
 pub mod Parts
-pub mod Places
 pub mod Puts
 pub mod ReadBack
 pub mod Rows

@@ -12,7 +12,7 @@ use Rattle.cdi_image.specs.Image.{mark, version, imageOf, imageSize, wit
 use Rattle.cdi_image.specs.Parts.{plainPart}
 use Rattle.cdi_image.proofs.Cells.{parts-are-cells}
 use Rattle.cdi_image.proofs.Cut.{cut, piece-length}
-use Rattle.cdi_image.proofs.Places.{part-is-bytes}
+use Rattle.logic.proofs.Places.{part-is-bytes}
 use Rattle.cdi_image.proofs.Rows.{input-written, slots-written}
 
 abbrev pub partSizes : List ℕ

@@ -15,7 +15,7 @@ use Rattle.cdi_state.proofs.Arrays.{below-two}
 use Rattle.cdi_image.specs.Image.{imageOf, imageSize, slotsIn, imageSettings, imageSlots, withImage}
 use Rattle.cdi_image.specs.Parts.{plainPart}
 use Rattle.cdi_image.proofs.Cut.{cut, cutEnd, cut-flatten, flatten-length}
-use Rattle.cdi_image.proofs.Places.{bytesFrom, part-is-bytes}
+use Rattle.logic.proofs.Places.{bytesFrom, part-is-bytes}
 use Rattle.cdi_image.proofs.Rows.{FourLong, slots-length, slots-read}
 use Rattle.cdi_image.proofs.Kept.{withKept}
 use Rattle.cdi_image.proofs.Parts.{partSizes, partsOf, image-is-parts}

@@ -1,27 +1,13 @@
--- Arrays as lists: one of a known length is its elements, and a struct's arrays have the lengths that its type says.
+-- The lengths of arrays: a struct's arrays have those that its type says.
 -- Assumes nothing.
 use Prim.Native.Nat.{ℕ, zero, suc, _+_, _<_}
-use mathlib.Core.Path.{_≡_, refl, sym, subst, _∙_}
-use mathlib.Core.List.{List, [], _∷_, _++_, map}
+use mathlib.Core.Path.{_≡_, sym, subst, _∙_}
+use mathlib.Core.List.{List, map}
 use native.Mathlib.Omega.{arith}
 use borrow.Author.Tests.{eqb-true, eqb-false}
 use lib.Dec.{eqb}
-use lib.ListN.{length, length-map, getD}
+use lib.ListN.{length, length-map}
 use Rattle.logic.proofs.Choice.{by-cases}
-
-pub two-long : (l : List ℕ) → length l ≡ 2 → getD l 0 0 ∷ getD l 1 0 ∷ [] ≡ l
-two-long [] e = absurd (omega arith)
-two-long (a ∷ []) e = absurd (omega arith)
-two-long (a ∷ b ∷ []) e = refl
-two-long (a ∷ b ∷ x ∷ l) e = absurd (omega arith)
-
-pub four-long : (l m : List ℕ) → length l ≡ 4 → getD l 0 0 ∷ getD l 1 0 ∷ getD l 2 0 ∷ getD l 3 0 ∷ m ≡ l ++ m
-four-long [] m e = absurd (omega arith)
-four-long (a ∷ []) m e = absurd (omega arith)
-four-long (a ∷ b ∷ []) m e = absurd (omega arith)
-four-long (a ∷ b ∷ c ∷ []) m e = absurd (omega arith)
-four-long (a ∷ b ∷ c ∷ d ∷ []) m e = refl
-four-long (a ∷ b ∷ c ∷ d ∷ x ∷ l) m e = absurd (omega arith)
 
 -- what having a struct tells of an array in it is about the list as the machine's values
 pub unmapped : (A B : Type 0) (f : A → B) (l : List A) (n : ℕ) → length (map f l) ≡ n → length l ≡ n

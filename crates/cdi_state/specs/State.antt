@@ -11,6 +11,7 @@ use Rattle.cdi_item.specs.Items as item
 use Rattle.cdi_state.specs.declared.Slot.{Slot}
 use Rattle.cdi_state.specs.declared.AnalogInput.{AnalogInput}
 use Rattle.cdi_state.specs.declared.Settings.{Settings}
+use Rattle.cdi_state.specs.declared.Stored.{Stored}
 use Rattle.cdi_state.specs.declared.ModuleState.{ModuleState}
 
 -- the five bytes of a row of item 16, and of item 18
@@ -48,14 +49,15 @@ abbrev pub settingBytes : Settings → List ℕ
 settingBytes t =
     t .«line_mask» ∷ t .«latch_mask» ∷ t .«tx_power» ∷ t .«control_source» ∷ t .«message_select» ∷ t .«interrupt_mask» ∷ []
 
--- an item's place in that list; 25's for any other
+-- an item's place in that list; for a code that is none of them, the place behind the last
 abbrev pub place : ℕ → ℕ
 place code =
     cond (eqb code item.lineMask) 0
     (cond (eqb code item.latchMask) 1
     (cond (eqb code item.txPower) 2
     (cond (eqb code item.controlSource) 3
-    (cond (eqb code item.messageSelect) 4 5))))
+    (cond (eqb code item.messageSelect) 4
+    (cond (eqb code item.interruptMask) 5 6)))))
 
 -- Set Default's values
 abbrev pub defaultInput : AnalogInput
@@ -82,35 +84,45 @@ noRssi = replicate 2 0x80
 -- the settings as Set Default leaves them, RSSI 80 80, and every other byte 00
 abbrev pub factoryState : ModuleState
 factoryState = record {
-  name = replicate item.nameLength 0;
-  firmware = replicate 3 0;
-  serial = replicate 4 0;
-  address = replicate 4 0;
-  nv = defaultSettings;
-  working = defaultSettings;
-  slots = replicate item.slotCount emptySlot;
-  lines = replicate 2 0;
-  rssi = noRssi;
-  ladj = 0;
-  events = 0;
-  flags = 0;
-  hardware = record { power = 0; «line_mask» = 0; «latch_mask» = 0 };
+  stored = record {
+    name = replicate item.nameLength 0;
+    firmware = replicate 3 0;
+    serial = replicate 4 0;
+    address = replicate 4 0;
+    settings = defaultSettings;
+    slots = replicate item.slotCount emptySlot;
+  };
+  working = record { settings = defaultSettings };
+  live = record {
+    lines = replicate 2 0;
+    rssi = noRssi;
+    ladj = 0;
+    events = 0;
+    flags = 0;
+    hardware = record { power = 0; «line_mask» = 0; «latch_mask» = 0 };
+  };
 }
 
 -- The lengths of the arrays of structs: a list of a definition can have any, a state of a program has these.
 pub record ArrayLengths (s : ModuleState) : Type 0 where
-  pub nv-inputs : length (s .nv .«analog_inputs») ≡ item.inputCount
-  pub working-inputs : length (s .working .«analog_inputs») ≡ item.inputCount
-  pub slot-count : length (s .slots) ≡ item.slotCount
+  pub stored-inputs : length (s .stored .settings .«analog_inputs») ≡ item.inputCount
+  pub working-inputs : length (s .working .settings .«analog_inputs») ≡ item.inputCount
+  pub slot-count : length (s .stored .slots) ≡ item.slotCount
 
--- the lengths of the arrays of bytes
+-- the lengths of the arrays of bytes: in one copy of the settings, in the stored part, in the whole state
+abbrev pub OffsetLengths : Settings → Type 0
+OffsetLengths t = (i : ℕ) → i < item.inputCount → length (getD (t .«analog_inputs») i noInput .offset) ≡ 2
+
+pub record StoredLengths (t : Stored) : Type 0 where
+  pub name-length : length (t .name) ≡ item.nameLength
+  pub firmware-length : length (t .firmware) ≡ 3
+  pub serial-length : length (t .serial) ≡ 4
+  pub address-length : length (t .address) ≡ 4
+  pub offset-length : OffsetLengths (t .settings)
+  pub slot-address-length : (i : ℕ) → i < item.slotCount → length (getD (t .slots) i noSlot .address) ≡ 4
+
 pub record FieldLengths (s : ModuleState) : Type 0 where
-  pub name-length : length (s .name) ≡ item.nameLength
-  pub firmware-length : length (s .firmware) ≡ 3
-  pub serial-length : length (s .serial) ≡ 4
-  pub address-length : length (s .address) ≡ 4
-  pub lines-length : length (s .lines) ≡ 2
-  pub rssi-length : length (s .rssi) ≡ 2
-  pub nv-offset-length : (i : ℕ) → i < item.inputCount → length (getD (s .nv .«analog_inputs») i noInput .offset) ≡ 2
-  pub working-offset-length : (i : ℕ) → i < item.inputCount → length (getD (s .working .«analog_inputs») i noInput .offset) ≡ 2
-  pub slot-address-length : (i : ℕ) → i < item.slotCount → length (getD (s .slots) i noSlot .address) ≡ 4
+  pub stored-lengths : StoredLengths (s .stored)
+  pub working-offset-length : OffsetLengths (s .working .settings)
+  pub lines-length : length (s .live .lines) ≡ 2
+  pub rssi-length : length (s .live .rssi) ≡ 2

@@ -1,15 +1,30 @@
-// The module's state (01's "module record"): document 01, "Items". It holds the settings twice, as the non-volatile copy and as
-// the working copy, the forty slots, and what is live.
+// The module's state (01's "module record"): document 01, "Items". It has three parts: what is stored, what the module works with, and
+// what is live. The settings are in the first two.
 ghost use Prim.Native.Nat.{_+_, _*_};
 ghost use mathlib.Core.Path.{_≡_};
-ghost use lib.ListN.{length, getD};
+ghost use lib.ListN.{length};
 ghost use Rattle.logic.specs.Signed.{signed};
-ghost use Rattle.cdi_state.specs.State.{inputBytes, slotBytes, inputOffset, noInput, factoryState, ArrayLengths, FieldLengths};
+ghost use Rattle.cdi_item.specs.Items.{inputCount, slotCount};
+ghost use Rattle.cdi_state.specs.State.{inputBytes, inputIn, slotBytes, slotIn, inputOffset, factoryState, ArrayLengths, OffsetLengths, StoredLengths, FieldLengths};
+use cdi_item::INPUT_COUNT;
+use cdi_item::NAME_LENGTH;
+use cdi_item::ROW_LENGTH;
+use cdi_item::SLOT_COUNT;
+
+// The bytes of items 02, 03 and 10, and of the address in a slot.
+pub const FIRMWARE_LENGTH: usize = 3;
+
+pub const SERIAL_LENGTH: usize = 4;
+
+pub const ADDRESS_LENGTH: usize = 4;
+
+// What both RSSI bytes hold before a signal was measured.
+pub const RSSI_NONE: u8 = 0x80;
 
 // A paired module (001's Paired Module Descriptor). Address 00 00 00 00 with mask 00 is an empty slot.
 #[repr(C)]
 pub struct Slot {
-    pub address: [u8; 4],
+    pub address: [u8; ADDRESS_LENGTH],
     pub mask: u8,
 }
 
@@ -30,7 +45,7 @@ pub struct Settings {
     pub tx_power: u8,
     pub control_source: u8,
     pub message_select: u8,
-    pub analog_inputs: [AnalogInput; 2],
+    pub analog_inputs: [AnalogInput; INPUT_COUNT],
     pub interrupt_mask: u8,
 }
 
@@ -42,16 +57,26 @@ pub struct HardwareSelection {
     pub latch_mask: u8,
 }
 
-// Everything that a module holds. Each field is a cell of the reference model, or holds some of its cells.
+// What is kept without power (01's N): identity, settings and slots. An image holds exactly this.
 #[repr(C)]
-pub struct ModuleState {
-    pub name: [u8; 17],
-    pub firmware: [u8; 3],
-    pub serial: [u8; 4],
-    pub address: [u8; 4],
-    pub nv: Settings,
-    pub working: Settings,
-    pub slots: [Slot; 40],
+pub struct Stored {
+    pub name: [u8; NAME_LENGTH],
+    pub firmware: [u8; FIRMWARE_LENGTH],
+    pub serial: [u8; SERIAL_LENGTH],
+    pub address: [u8; ADDRESS_LENGTH],
+    pub settings: Settings,
+    pub slots: [Slot; SLOT_COUNT],
+}
+
+// What the module works with (01's V): a power-up makes it from the stored part.
+#[repr(C)]
+pub struct Working {
+    pub settings: Settings,
+}
+
+// What the controller sets (01's live cells): inputs, signal, events, flags and the hardware's pins.
+#[repr(C)]
+pub struct Live {
     pub lines: [u8; 2],
     pub rssi: [u8; 2],
     pub ladj: u8,
@@ -60,18 +85,36 @@ pub struct ModuleState {
     pub hardware: HardwareSelection,
 }
 
+// Everything that a module holds. Each field is a cell of the reference model, or holds some of its cells.
+#[repr(C)]
+pub struct ModuleState {
+    pub stored: Stored,
+    pub working: Working,
+    pub live: Live,
+}
+
 impl Slot {
     pub const EMPTY: Slot = Slot {
-        address: [0; 4],
+        address: [0; ADDRESS_LENGTH],
         mask: 0,
     };
 
     // The slot as item 18 has it.
-    pub fn bytes(self) -> [u8; 5]
+    pub fn bytes(self) -> [u8; ROW_LENGTH]
         ensures { λ r. ⌜ r ≡ slotBytes self ⌝ }
     {
         let address = self.address;
         [address[0], address[1], address[2], address[3], self.mask]
+    }
+
+    // The slot that has these bytes.
+    pub fn from_bytes(row: [u8; ROW_LENGTH]) -> Slot
+        ensures { λ r. ⌜ r ≡ slotIn row ⌝ }
+    {
+        Slot {
+            address: [row[0], row[1], row[2], row[3]],
+            mask: row[4],
+        }
     }
 }
 
@@ -84,7 +127,7 @@ impl AnalogInput {
     };
 
     // The input as item 16 has it.
-    pub fn bytes(self) -> [u8; 5]
+    pub fn bytes(self) -> [u8; ROW_LENGTH]
         ensures { λ r. ⌜ r ≡ inputBytes self ⌝ }
     {
         let offset = self.offset;
@@ -95,6 +138,18 @@ impl AnalogInput {
             offset[0],
             offset[1],
         ]
+    }
+
+    // The input that has these bytes.
+    pub fn from_bytes(row: [u8; ROW_LENGTH]) -> AnalogInput
+        ensures { λ r. ⌜ r ≡ inputIn row ⌝ }
+    {
+        AnalogInput {
+            channel: row[0],
+            readings: row[1],
+            reference: row[2],
+            offset: [row[3], row[4]],
+        }
     }
 
     // The offset as the signed number that `analog::readout` takes.
@@ -114,7 +169,7 @@ impl Settings {
         tx_power: 0,
         control_source: 0x06,
         message_select: 0,
-        analog_inputs: [AnalogInput::DEFAULT; 2],
+        analog_inputs: [AnalogInput::DEFAULT; INPUT_COUNT],
         interrupt_mask: 0,
     };
 }
@@ -130,17 +185,8 @@ fn signed_pair(high: u8, low: u8) -> i16
     (raw - 0x8000) as i16 + i16::MIN
 }
 
-// The bytes of a stored name.
-pub const NAME_LENGTH: usize = 17;
-
-// The slots of a module.
-pub const SLOT_COUNT: usize = 40;
-
-// What both RSSI bytes hold before a signal was measured.
-pub const RSSI_NONE: u8 = 0x80;
-
-// This function and the two below do nothing. Each is there for its contract: a program that has a value knows the lengths of
-// the arrays in it.
+// This function and those below it do nothing. Each is there for its contract: a program that has a value knows the lengths of the
+// arrays in it.
 fn slot_lengths(slot: Slot)
     ensures { λ r. ⌜ length (slot .address) ≡ 4 ⌝ }
 {}
@@ -150,7 +196,7 @@ fn input_lengths(input: AnalogInput)
 {}
 
 fn settings_lengths(settings: Settings)
-    ensures { λ r. ⌜ (length (settings .«analog_inputs») ≡ 2) × (length (getD (settings .«analog_inputs») 0 noInput .offset) ≡ 2) × (length (getD (settings .«analog_inputs») 1 noInput .offset) ≡ 2) ⌝ }
+    ensures { λ r. ⌜ (length (settings .«analog_inputs») ≡ inputCount) × OffsetLengths settings ⌝ }
 {
     let first = settings.analog_inputs[0];
     let second = settings.analog_inputs[1];
@@ -158,28 +204,50 @@ fn settings_lengths(settings: Settings)
     input_lengths(second);
 }
 
+fn stored_lengths(stored: Stored)
+    ensures { λ r. ⌜ (length (stored .settings .«analog_inputs») ≡ inputCount) × (length (stored .slots) ≡ slotCount) × StoredLengths stored ⌝ }
+{
+    settings_lengths(stored.settings);
+    let mut i: usize = 0;
+    while i < SLOT_COUNT {
+        let slot = stored.slots[i];
+        slot_lengths(slot);
+        i += 1;
+    }
+}
+
+fn live_lengths(live: Live)
+    ensures { λ r. ⌜ (length (live .lines) ≡ 2) × (length (live .rssi) ≡ 2) ⌝ }
+{}
+
 impl ModuleState {
     // The state as a module leaves the factory.
     pub fn factory() -> ModuleState
         ensures { λ r. ⌜ r ≡ factoryState ⌝ }
     {
         ModuleState {
-            name: [0; 17],
-            firmware: [0; 3],
-            serial: [0; 4],
-            address: [0; 4],
-            nv: Settings::DEFAULT,
-            working: Settings::DEFAULT,
-            slots: [Slot::EMPTY; 40],
-            lines: [0; 2],
-            rssi: [RSSI_NONE; 2],
-            ladj: 0,
-            events: 0,
-            flags: 0,
-            hardware: HardwareSelection {
-                power: 0,
-                line_mask: 0,
-                latch_mask: 0,
+            stored: Stored {
+                name: [0; NAME_LENGTH],
+                firmware: [0; FIRMWARE_LENGTH],
+                serial: [0; SERIAL_LENGTH],
+                address: [0; ADDRESS_LENGTH],
+                settings: Settings::DEFAULT,
+                slots: [Slot::EMPTY; SLOT_COUNT],
+            },
+            working: Working {
+                settings: Settings::DEFAULT,
+            },
+            live: Live {
+                lines: [0; 2],
+                rssi: [RSSI_NONE; 2],
+                ladj: 0,
+                events: 0,
+                flags: 0,
+                hardware: HardwareSelection {
+                    power: 0,
+                    line_mask: 0,
+                    latch_mask: 0,
+                },
             },
         }
     }
@@ -189,14 +257,9 @@ impl ModuleState {
     pub fn array_lengths(self) -> ModuleState
         ensures { λ r. ⌜ (r ≡ self) × (ArrayLengths self × FieldLengths self) ⌝ }
     {
-        settings_lengths(self.nv);
-        settings_lengths(self.working);
-        let mut i: usize = 0;
-        while i < SLOT_COUNT {
-            let slot = self.slots[i];
-            slot_lengths(slot);
-            i += 1;
-        }
+        stored_lengths(self.stored);
+        settings_lengths(self.working.settings);
+        live_lengths(self.live);
         self
     }
 }

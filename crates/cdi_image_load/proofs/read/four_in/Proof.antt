@@ -1,7 +1,7 @@
 -- Four bytes, each at its own place, are the list of four.
 -- Assumes nothing.
 use borrow.Author.Needs.{needs}
-use Rattle.cdi_image.proofs.Places.{rest-is-bytes}
+use Rattle.logic.proofs.Places.{rest-is-bytes}
 use Rattle.cdi_image_load.proofs.read.four_in.Statement.{statement}
 use Rattle.cdi_image_load.proofs.read.four_in.Tie as tie
 

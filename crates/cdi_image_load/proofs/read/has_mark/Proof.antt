@@ -3,7 +3,7 @@
 use mathlib.Core.Path.{refl}
 use mathlib.Core.Bool.{and-true, and-assoc}
 use borrow.Author.Needs.{needs}
-use Rattle.cdi_image.proofs.Places.{part-is-bytes}
+use Rattle.logic.proofs.Places.{part-is-bytes}
 use Rattle.cdi_image_load.proofs.read.has_mark.Statement.{statement}
 use Rattle.cdi_image_load.proofs.read.has_mark.Tie as tie
 

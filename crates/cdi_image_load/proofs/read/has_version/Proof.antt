@@ -3,7 +3,7 @@
 use mathlib.Core.Path.{refl}
 use mathlib.Core.Bool.{and-true}
 use borrow.Author.Needs.{needs}
-use Rattle.cdi_image.proofs.Places.{part-is-bytes}
+use Rattle.logic.proofs.Places.{part-is-bytes}
 use Rattle.cdi_image_load.proofs.read.has_version.Statement.{statement}
 use Rattle.cdi_image_load.proofs.read.has_version.Tie as tie
 

@@ -1,7 +1,7 @@
 -- The bytes of a row are an input's in their order, and the two behind the third are its offset.
 -- Assumes nothing.
 use borrow.Author.Needs.{needs}
-use Rattle.cdi_image.proofs.Places.{rest-is-bytes}
+use Rattle.logic.proofs.Places.{rest-is-bytes}
 use Rattle.cdi_image_load.proofs.read.input_in.Statement.{statement}
 use Rattle.cdi_image_load.proofs.read.input_in.Tie as tie
 

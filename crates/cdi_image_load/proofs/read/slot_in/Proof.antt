@@ -1,7 +1,7 @@
 -- The first four bytes of a row are the address, each at its own place, and the fifth is the mask.
 -- Assumes nothing.
 use borrow.Author.Needs.{needs}
-use Rattle.cdi_image.proofs.Places.{part-is-bytes}
+use Rattle.logic.proofs.Places.{part-is-bytes}
 use Rattle.cdi_image_load.proofs.read.slot_in.Statement.{statement}
 use Rattle.cdi_image_load.proofs.read.slot_in.Tie as tie
 

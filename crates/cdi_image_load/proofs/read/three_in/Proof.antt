@@ -1,7 +1,7 @@
 -- Three bytes, each at its own place, are the list of three.
 -- Assumes nothing.
 use borrow.Author.Needs.{needs}
-use Rattle.cdi_image.proofs.Places.{rest-is-bytes}
+use Rattle.logic.proofs.Places.{rest-is-bytes}
 use Rattle.cdi_image_load.proofs.read.three_in.Statement.{statement}
 use Rattle.cdi_image_load.proofs.read.three_in.Tie as tie
 

@@ -20,3 +20,7 @@ part-is-bytes i (suc n) l h =
 -- all that stand from place i on
 pub rest-is-bytes : (i n : ℕ) (l : List ℕ) → length l ≡ i + n → bytesFrom i n l ≡ drop i l
 rest-is-bytes i n l e = sym (part-is-bytes i n l (omega arith)) ∙ take-all n (drop i l) (omega (arith, length-drop i l))
+
+-- all bytes of a list
+pub all-is-bytes : (n : ℕ) (l : List ℕ) → length l ≡ n → bytesFrom 0 n l ≡ l
+all-is-bytes n l e = rest-is-bytes 0 n l (omega arith)

@@ -1,0 +1,31 @@
+-- The bytes of a row are an input's in their order, and the two behind the third are its offset.
+-- Assumes nothing.
+use Rattle.logic.proofs.Places.{rest-is-bytes}
+use borrow.Author.Needs.{needs}
+use Rattle.cdi_state.proofs.AnalogInput.from_bytes.Statement.{statement}
+use Rattle.cdi_state.proofs.AnalogInput.from_bytes.Tie as tie
+
+array-read-t5 : tie.Need-array-read-t5
+array-read-t5 c = search needs
+
+array-read-t8 : tie.Need-array-read-t8
+array-read-t8 c = search needs
+
+array-read-t11 : tie.Need-array-read-t11
+array-read-t11 c = search needs
+
+array-read-t14 : tie.Need-array-read-t14
+array-read-t14 c = search needs
+
+array-read-t17 : tie.Need-array-read-t17
+array-read-t17 c = search needs
+
+returns : tie.Need-returns
+returns c =
+    let row = c .args .t1 in
+    rw (rest-is-bytes 3 2 row (search needs))
+
+pub from-bytes-spec : {M : Type 1} → statement M
+from-bytes-spec =
+    tie.close
+    (tie.spec array-read-t5 array-read-t8 array-read-t11 array-read-t14 array-read-t17 returns)
