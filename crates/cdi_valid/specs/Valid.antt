@@ -12,6 +12,7 @@ use Rattle.cdi_item.specs.Values.{acceptedValue}
 use Rattle.cdi_state.specs.declared.Slot.{Slot}
 use Rattle.cdi_state.specs.declared.AnalogInput.{AnalogInput}
 use Rattle.cdi_state.specs.declared.Settings.{Settings}
+use Rattle.cdi_state.specs.declared.Stored.{Stored}
 use Rattle.cdi_state.specs.declared.ModuleState.{ModuleState}
 use Rattle.cdi_state.specs.State.{inputBytes, slotBytes, noInput}
 
@@ -33,12 +34,14 @@ validSlot s = acceptedValue pairedModule (slotBytes s)
 abbrev pub validSlots : List Slot → Bool
 validSlots slots = all validSlot slots
 
+-- the stored part: the name has a 00, and the settings and all slots hold accepted values
+abbrev pub validStored : Stored → Bool
+validStored t = (hasZero (t .name) && validSettings (t .settings)) && validSlots (t .slots)
+
 -- the mode, bits 0 to 2, is at most 4, and bits 3, 6 and 7 are zero
 abbrev pub validFlags : ℕ → Bool
 validFlags flags = leb (bitAnd flags modeMask) modeMax && eqb (bitAnd flags flagsZero) 0
 
--- the name has a 00, both copies of the settings and all slots hold accepted values, and so do the flags
+-- the stored part is valid, the working settings hold accepted values, and so do the flags
 unfoldable pub isValid : ModuleState → Bool
-isValid s =
-    (((hasZero (s .name) && validSettings (s .nv)) && validSettings (s .working)) && validSlots (s .slots)) &&
-    validFlags (s .flags)
+isValid s = (validStored (s .stored) && validSettings (s .working .settings)) && validFlags (s .live .flags)

@@ -3,15 +3,16 @@ ghost use mathlib.Core.Path.{_≡_};
 ghost use mathlib.Core.List.{[], _∷_};
 ghost use Rattle.logic.specs.Lists.{hasZero};
 ghost use Rattle.cdi_item.specs.Values.{acceptedValue};
-ghost use Rattle.cdi_valid.specs.Valid.{validInput, validSettings, validSlot, validSlots, validFlags, isValid};
+ghost use Rattle.cdi_valid.specs.Valid.{validInput, validSettings, validSlot, validSlots, validStored, validFlags, isValid};
+use cdi_item::NAME_LENGTH;
+use cdi_item::SLOT_COUNT;
 use cdi_item::Value;
 use cdi_item::code;
 use cdi_state::AnalogInput;
 use cdi_state::ModuleState;
-use cdi_state::NAME_LENGTH;
-use cdi_state::SLOT_COUNT;
 use cdi_state::Settings;
 use cdi_state::Slot;
+use cdi_state::Stored;
 
 // The flags' bits of the mode, and those that are always zero.
 const MODE_MASK: u8 = 0x07;
@@ -21,7 +22,7 @@ const MODE_MAX: u8 = 4;
 const FLAGS_ZERO: u8 = 0xC8;
 
 // Whether a 00 is among the bytes of a name. None ends the loop early, as with the slots below.
-fn has_zero(name: [u8; 17]) -> bool
+fn has_zero(name: [u8; NAME_LENGTH]) -> bool
     ensures { λ r. ⌜ r ≡ hasZero name ⌝ }
 {
     let mut found = false;
@@ -52,37 +53,19 @@ fn accepts_byte(item: u8, byte: u8) -> bool
 fn is_valid_input(input: AnalogInput) -> bool
     ensures { λ r. ⌜ r ≡ validInput input ⌝ }
 {
-    let offset = input.offset;
-    cdi_item::accepts(
-        code::ANALOG_INPUT,
-        Value {
-            byte0: input.channel,
-            byte1: input.readings,
-            byte2: input.reference,
-            byte3: offset[0],
-            byte4: offset[1],
-        },
-    )
+    let row = input.bytes();
+    cdi_item::accepts(code::ANALOG_INPUT, Value::from_bytes(row))
 }
 
 fn is_valid_slot(slot: Slot) -> bool
     ensures { λ r. ⌜ r ≡ validSlot slot ⌝ }
 {
-    let address = slot.address;
-    cdi_item::accepts(
-        code::PAIRED_MODULE,
-        Value {
-            byte0: address[0],
-            byte1: address[1],
-            byte2: address[2],
-            byte3: address[3],
-            byte4: slot.mask,
-        },
-    )
+    let row = slot.bytes();
+    cdi_item::accepts(code::PAIRED_MODULE, Value::from_bytes(row))
 }
 
 // No slot ends the loop early: without a branch for each, the loop is cheaper.
-fn are_valid_slots(slots: [Slot; 40]) -> bool
+fn are_valid_slots(slots: [Slot; SLOT_COUNT]) -> bool
     ensures { λ r. ⌜ r ≡ validSlots slots ⌝ }
 {
     let mut valid = true;
@@ -113,15 +96,20 @@ fn are_valid_flags(flags: u8) -> bool
     (flags & MODE_MASK <= MODE_MAX) & (flags & FLAGS_ZERO == 0)
 }
 
+// Whether the stored part is valid: an image is tested for this alone.
+pub fn is_valid_stored(stored: Stored) -> bool
+    ensures { λ r. ⌜ r ≡ validStored stored ⌝ }
+{
+    let name = stored.name;
+    let slots = stored.slots;
+    has_zero(name) & are_valid_settings(stored.settings) & are_valid_slots(slots)
+}
+
 // Whether commands and power-ups are accepted on the state (01's "sound").
 pub fn is_valid(state: ModuleState) -> bool
     ensures { λ r. ⌜ r ≡ isValid state ⌝ }
 {
-    let name = state.name;
-    let slots = state.slots;
-    has_zero(name)
-        & are_valid_settings(state.nv)
-        & are_valid_settings(state.working)
-        & are_valid_slots(slots)
-        & are_valid_flags(state.flags)
+    is_valid_stored(state.stored)
+        & are_valid_settings(state.working.settings)
+        & are_valid_flags(state.live.flags)
 }

@@ -1,29 +1,24 @@
--- The offset's two bytes are the whole of it, so the value asked about is the row's five bytes.
+-- The value asked about has an input's five bytes.
 -- Assumes nothing.
-use Prim.Native.Nat.{ℕ}
 use mathlib.Core.Path.{ap, _∙_}
-use mathlib.Core.List.{List, _∷_}
-use borrow.Author.Needs.{needs}
 use Rattle.cdi_item.specs.Items.{analogInput}
 use Rattle.cdi_item.specs.Values.{acceptedValue}
-use Rattle.cdi_state.proofs.Arrays.{two-long}
+use borrow.Author.Needs.{needs}
 use Rattle.cdi_valid.proofs.is_valid_input.Statement.{statement}
 use Rattle.cdi_valid.proofs.is_valid_input.Tie as tie
 
-array-read-t5 : tie.Need-array-read-t5
-array-read-t5 c = search needs
+bytes-requires : tie.Need-bytes-requires
+bytes-requires c κs = search needs
 
-array-read-t8 : tie.Need-array-read-t8
-array-read-t8 c = search needs
+from-bytes-requires : tie.Need-from-bytes-requires
+from-bytes-requires c κs = search needs
 
 accepts-requires : tie.Need-accepts-requires
 accepts-requires c κs = search needs
 
 returns : tie.Need-returns
-returns c =
-    let x = c .before .before .args .input in
-    c .accepts .ensures ∙
-    ap (λ (o : List ℕ). acceptedValue analogInput (x .channel ∷ x .readings ∷ x .reference ∷ o)) (two-long (x .offset) (search needs))
+returns c = c .accepts .ensures ∙ ap (acceptedValue analogInput) (c .before .from-bytes .ensures ∙ c .before .before .bytes .ensures)
 
 pub is-valid-input-spec : {M : Type 1} → statement M
-is-valid-input-spec = tie.close (tie.spec array-read-t5 array-read-t8 accepts-requires returns)
+is-valid-input-spec =
+    tie.close (tie.spec bytes-requires from-bytes-requires accepts-requires returns)
