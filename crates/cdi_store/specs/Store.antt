@@ -17,37 +17,33 @@ use Rattle.cdi_command.specs.Payload.{commandCode}
 use Rattle.cdi_state.specs.declared.AnalogInput.{AnalogInput}
 use Rattle.cdi_state.specs.declared.Slot.{Slot}
 use Rattle.cdi_state.specs.declared.Settings.{Settings}
+use Rattle.cdi_state.specs.declared.Stored.{Stored}
+use Rattle.cdi_state.specs.declared.Working.{Working}
+use Rattle.cdi_state.specs.declared.Live.{Live}
 use Rattle.cdi_state.specs.declared.ModuleState.{ModuleState}
 use Rattle.cdi_state.specs.State.{inputIn, slotIn, settingBytes, place, defaultSettings, emptySlot, noRssi}
 use Rattle.cdi_store.specs.declared.SettingField.{SettingField}
 use Rattle.cdi_store.specs.declared.SettingField.the-variants.{Byte, Row}
 
--- ---- a state with the parts replaced that commands store in
-abbrev pub replaced : ModuleState → (address : List ℕ) (nv working : Settings) (slots : List Slot) → ModuleState
-replaced s a n w l = record {
-  name = s .name;
-  firmware = s .firmware;
-  serial = s .serial;
+-- ---- the stored part with something replaced that commands store in
+abbrev pub replaced : Stored → (address : List ℕ) (settings : Settings) (slots : List Slot) → Stored
+replaced t a x l = record {
+  name = t .name;
+  firmware = t .firmware;
+  serial = t .serial;
   address = a;
-  nv = n;
-  working = w;
+  settings = x;
   slots = l;
-  lines = s .lines;
-  rssi = s .rssi;
-  ladj = s .ladj;
-  events = s .events;
-  flags = s .flags;
-  hardware = s .hardware;
 }
 
-abbrev pub withAddress : ModuleState → List ℕ → ModuleState
-withAddress s a = replaced s a (s .nv) (s .working) (s .slots)
+abbrev pub withAddress : Stored → List ℕ → Stored
+withAddress t a = replaced t a (t .settings) (t .slots)
 
-abbrev pub withSettings : ModuleState → (nv working : Settings) → ModuleState
-withSettings s n w = replaced s (s .address) n w (s .slots)
+abbrev pub withSettings : Stored → Settings → Stored
+withSettings t x = replaced t (t .address) x (t .slots)
 
-abbrev pub withSlots : ModuleState → List Slot → ModuleState
-withSlots s l = replaced s (s .address) (s .nv) (s .working) l
+abbrev pub withSlots : Stored → List Slot → Stored
+withSlots t l = replaced t (t .address) (t .settings) l
 
 -- settings with the bytes of a list in the order of `settingBytes`
 abbrev pub withBytes : Settings → List ℕ → Settings
@@ -72,14 +68,14 @@ withInputs t l = record {
   «interrupt_mask» = t .«interrupt_mask»;
 }
 
--- ---- a value in one copy of the settings
+-- ---- a value in one copy of the settings; a code that is no setting's leaves them
 unfoldable pub settingStored : Settings → ℕ → ℕ → Settings
 settingStored t code byte = withBytes t (set (settingBytes t) (place code) byte)
 
 abbrev pub inputFrom : Value → AnalogInput
 inputFrom v = inputIn (valueBytes v)
 
--- the row of an input, by its number from 1 on
+-- the row of an input, by its number from 1 on; a number that is no input's leaves them
 abbrev pub inputStored : Settings → ℕ → AnalogInput → Settings
 inputStored t zero x = t
 inputStored t (suc i) x = withInputs t (set (t .«analog_inputs») i x)
@@ -95,46 +91,54 @@ addressFrom v = take 4 (valueBytes v)
 abbrev pub slotFrom : Value → Slot
 slotFrom v = slotIn (valueBytes v)
 
--- ---- commands
--- Write stores in the working copy alone; no slot has one
-abbrev pub plainWritten : ModuleState → ℕ → Value → ModuleState
-plainWritten s code v = withSettings s (s .nv) (settingStored (s .working) code (v .byte0))
+-- ---- commands, part by part
+-- Program stores in the stored part: in the address, a setting or a slot
+abbrev pub plainProgrammed : Stored → ℕ → Value → Stored
+plainProgrammed t code v =
+    cond (eqb code item.address) (withAddress t (addressFrom v)) (withSettings t (settingStored (t .settings) code (v .byte0)))
 
-abbrev pub rowWritten : ModuleState → Index → Value → ModuleState
-rowWritten s (SlotAt i) v = s
-rowWritten s (InputAt n) v = withSettings s (s .nv) (inputStored (s .working) (n .0) (inputFrom v))
+abbrev pub slotProgrammed : Stored → ℕ → Slot → Stored
+slotProgrammed t i x = withSlots t (set (t .slots) i x)
 
--- Program stores in both copies, of the address and of a slot in the one that there is
-abbrev pub plainProgrammed : ModuleState → ℕ → Value → ModuleState
-plainProgrammed s code v =
-    cond (eqb code item.address) (withAddress s (addressFrom v))
-    (withSettings s (settingStored (s .nv) code (v .byte0)) (settingStored (s .working) code (v .byte0)))
+abbrev pub rowProgrammed : Stored → Index → Value → Stored
+rowProgrammed t (SlotAt i) v = slotProgrammed t (i .0) (slotFrom v)
+rowProgrammed t (InputAt n) v = withSettings t (inputStored (t .settings) (n .0) (inputFrom v))
 
-abbrev pub slotProgrammed : ModuleState → ℕ → Slot → ModuleState
-slotProgrammed s i x = withSlots s (set (s .slots) i x)
+abbrev pub storedAfter : Stored → Command → Stored
+storedAfter t (Read x) = t
+storedAfter t (ReadIndexed x i) = t
+storedAfter t (ReadNv x) = t
+storedAfter t (ReadNvIndexed x i) = t
+storedAfter t (Write x v) = t
+storedAfter t (WriteIndexed x i v) = t
+storedAfter t (Program x v) = plainProgrammed t (x .code) v
+storedAfter t (ProgramIndexed x i v) = rowProgrammed t i v
+storedAfter t SetDefault = withSettings t defaultSettings
+storedAfter t EraseAll = withSlots t (replicate item.slotCount emptySlot)
 
-abbrev pub rowProgrammed : ModuleState → Index → Value → ModuleState
-rowProgrammed s (SlotAt i) v = slotProgrammed s (i .0) (slotFrom v)
-rowProgrammed s (InputAt n) v =
-    withSettings s (inputStored (s .nv) (n .0) (inputFrom v)) (inputStored (s .working) (n .0) (inputFrom v))
+-- Write and Program store in the working settings. No slot is among them, nor the address, which is no setting
+abbrev pub rowStored : Settings → Index → Value → Settings
+rowStored x (SlotAt i) v = x
+rowStored x (InputAt n) v = inputStored x (n .0) (inputFrom v)
 
-abbrev pub defaulted : ModuleState → ModuleState
-defaulted s = withSettings s defaultSettings defaultSettings
+abbrev pub settingsAfter : Settings → Command → Settings
+settingsAfter x (Read y) = x
+settingsAfter x (ReadIndexed y i) = x
+settingsAfter x (ReadNv y) = x
+settingsAfter x (ReadNvIndexed y i) = x
+settingsAfter x (Write y v) = settingStored x (y .code) (v .byte0)
+settingsAfter x (WriteIndexed y i v) = rowStored x i v
+settingsAfter x (Program y v) = settingStored x (y .code) (v .byte0)
+settingsAfter x (ProgramIndexed y i v) = rowStored x i v
+settingsAfter x SetDefault = defaultSettings
+settingsAfter x EraseAll = x
 
-abbrev pub erased : ModuleState → ModuleState
-erased s = withSlots s (replicate item.slotCount emptySlot)
+abbrev pub workingAfter : Working → Command → Working
+workingAfter w c = record { settings = settingsAfter (w .settings) c }
 
+-- no command stores in the live part
 abbrev pub stateAfter : ModuleState → Command → ModuleState
-stateAfter s (Read x) = s
-stateAfter s (ReadIndexed x i) = s
-stateAfter s (ReadNv x) = s
-stateAfter s (ReadNvIndexed x i) = s
-stateAfter s (Write x v) = plainWritten s (x .code) v
-stateAfter s (WriteIndexed x i v) = rowWritten s i v
-stateAfter s (Program x v) = plainProgrammed s (x .code) v
-stateAfter s (ProgramIndexed x i v) = rowProgrammed s i v
-stateAfter s SetDefault = defaulted s
-stateAfter s EraseAll = erased s
+stateAfter s c = record { stored = storedAfter (s .stored) c; working = workingAfter (s .working) c; live = s .live }
 
 -- all commands but Read and Read NV store
 abbrev pub isRead : Command → Bool
@@ -152,20 +156,19 @@ abbrev pub stateFor : ModuleState → Result Command → ModuleState
 stateFor s (accepted c) = stateAfter s c
 stateFor s (refused n) = s
 
--- a power-up takes the working settings from the non-volatile ones, and sets both RSSI bytes to 80, events and flags to 00
-abbrev pub stateAtPowerUp : ModuleState → ModuleState
-stateAtPowerUp s = record {
-  name = s .name;
-  firmware = s .firmware;
-  serial = s .serial;
-  address = s .address;
-  nv = s .nv;
-  working = s .nv;
-  slots = s .slots;
-  lines = s .lines;
+-- a power-up makes the working part from the stored one, and sets both RSSI bytes to 80, events and flags to 00
+abbrev pub workingAtPowerUp : Stored → Working
+workingAtPowerUp t = record { settings = t .settings }
+
+abbrev pub liveAtPowerUp : Live → Live
+liveAtPowerUp l = record {
+  lines = l .lines;
   rssi = noRssi;
-  ladj = s .ladj;
+  ladj = l .ladj;
   events = 0x00;
   flags = 0x00;
-  hardware = s .hardware;
+  hardware = l .hardware;
 }
+
+abbrev pub stateAtPowerUp : ModuleState → ModuleState
+stateAtPowerUp s = record { stored = s .stored; working = workingAtPowerUp (s .stored); live = liveAtPowerUp (s .live) }

@@ -2,11 +2,12 @@
 // decides.
 ghost use mathlib.Core.Path.{_≡_};
 ghost use Rattle.cdi_command.specs.Command.{validatedResult};
-ghost use Rattle.cdi_store.specs.Store.{valueStored, slotFrom, stateFor, storesFor, stateAtPowerUp};
+ghost use Rattle.cdi_store.specs.Store.{valueStored, stateFor, storesFor, stateAtPowerUp};
 use cdi_command::Command;
 use cdi_command::Index;
 use cdi_command::Validated;
 use cdi_item::InputNumber;
+use cdi_item::SLOT_COUNT;
 use cdi_item::Value;
 use cdi_item::code;
 use cdi_state::AnalogInput;
@@ -21,7 +22,7 @@ enum SettingField {
     Row(InputNumber),
 }
 
-// One copy of the settings with another value. A row that there is not is left alone: inputs count from 1.
+// One copy of the settings with another value. A code that is no setting's and a number that is no input's change nothing.
 fn with_value(settings: Settings, setting: SettingField, value: Value) -> Settings
     ensures { λ r. ⌜ r ≡ valueStored settings setting value ⌝ }
 {
@@ -32,13 +33,8 @@ fn with_value(settings: Settings, setting: SettingField, value: Value) -> Settin
                 return t;
             }
             let i = (number.0 - 1) as usize;
-            let row = AnalogInput {
-                channel: value.byte0,
-                readings: value.byte1,
-                reference: value.byte2,
-                offset: [value.byte3, value.byte4],
-            };
-            t.analog_inputs[i] = row;
+            let input = AnalogInput::from_bytes(value.bytes());
+            t.analog_inputs[i] = input;
             t
         }
         SettingField::Byte(item) => {
@@ -63,18 +59,11 @@ fn with_value(settings: Settings, setting: SettingField, value: Value) -> Settin
                 t.message_select = byte;
                 return t;
             }
-            t.interrupt_mask = byte;
+            if item == code::INTERRUPT_MASK {
+                t.interrupt_mask = byte;
+            }
             t
         }
-    }
-}
-
-fn slot_from(value: Value) -> Slot
-    ensures { λ r. ⌜ r ≡ slotFrom value ⌝ }
-{
-    Slot {
-        address: [value.byte0, value.byte1, value.byte2, value.byte3],
-        mask: value.byte4,
     }
 }
 
@@ -82,55 +71,55 @@ fn slot_from(value: Value) -> Slot
 pub fn store(state: ModuleState, validated: Validated) -> ModuleState
     ensures { λ r. ⌜ r ≡ stateFor state (validatedResult validated) ⌝ }
 {
-    let mut q = state;
-    let nv = q.nv;
-    let working = q.working;
+    let mut stored = state.stored;
+    let mut working = state.working;
+    let live = state.live;
     match validated {
         Validated::Refused(_) => {}
         Validated::Accepted(command) => match command {
             Command::Write(item, value) => {
-                let after = with_value(working, SettingField::Byte(item.code), value);
-                q.working = after;
+                let after = with_value(working.settings, SettingField::Byte(item.code), value);
+                working.settings = after;
             }
             Command::WriteIndexed(_, index, value) => match index {
                 Index::Slot(_) => {}
                 Index::Input(number) => {
-                    let after = with_value(working, SettingField::Row(number), value);
-                    q.working = after;
+                    let after = with_value(working.settings, SettingField::Row(number), value);
+                    working.settings = after;
                 }
             },
             Command::Program(item, value) => {
                 if item.code == code::ADDRESS {
-                    q.address = [value.byte0, value.byte1, value.byte2, value.byte3];
+                    stored.address = [value.byte0, value.byte1, value.byte2, value.byte3];
                 } else {
-                    let after = with_value(nv, SettingField::Byte(item.code), value);
-                    q.nv = after;
-                    let after = with_value(working, SettingField::Byte(item.code), value);
-                    q.working = after;
+                    let after = with_value(stored.settings, SettingField::Byte(item.code), value);
+                    stored.settings = after;
+                    let after = with_value(working.settings, SettingField::Byte(item.code), value);
+                    working.settings = after;
                 }
             }
             Command::ProgramIndexed(_, index, value) => match index {
                 Index::Slot(at) => {
                     if cdi_item::is_slot_index(at.0) {
                         let i = at.0 as usize;
-                        let slot = slot_from(value);
-                        q.slots[i] = slot;
+                        let slot = Slot::from_bytes(value.bytes());
+                        stored.slots[i] = slot;
                     }
                 }
                 Index::Input(number) => {
-                    let after = with_value(nv, SettingField::Row(number), value);
-                    q.nv = after;
-                    let after = with_value(working, SettingField::Row(number), value);
-                    q.working = after;
+                    let after = with_value(stored.settings, SettingField::Row(number), value);
+                    stored.settings = after;
+                    let after = with_value(working.settings, SettingField::Row(number), value);
+                    working.settings = after;
                 }
             },
             Command::SetDefault => {
                 let settings = Settings::DEFAULT;
-                q.nv = settings;
-                q.working = settings;
+                stored.settings = settings;
+                working.settings = settings;
             }
             Command::EraseAll => {
-                q.slots = [Slot::EMPTY; 40];
+                stored.slots = [Slot::EMPTY; SLOT_COUNT];
             }
             Command::Read(_)
             | Command::ReadIndexed(_, _)
@@ -138,7 +127,11 @@ pub fn store(state: ModuleState, validated: Validated) -> ModuleState
             | Command::ReadNvIndexed(_, _) => {}
         },
     }
-    q
+    ModuleState {
+        stored,
+        working,
+        live,
+    }
 }
 
 // Whether a payload that was validated stores anything: the reads do not.
@@ -161,11 +154,17 @@ pub fn stores(validated: Validated) -> bool
 pub fn powered_up(state: ModuleState) -> ModuleState
     ensures { λ r. ⌜ r ≡ stateAtPowerUp state ⌝ }
 {
-    let mut q = state;
-    let settings = q.nv;
-    q.working = settings;
-    q.rssi = [RSSI_NONE; 2];
-    q.events = 0;
-    q.flags = 0;
-    q
+    let stored = state.stored;
+    let mut working = state.working;
+    let mut live = state.live;
+    let settings = stored.settings;
+    working.settings = settings;
+    live.rssi = [RSSI_NONE; 2];
+    live.events = 0;
+    live.flags = 0;
+    ModuleState {
+        stored,
+        working,
+        live,
+    }
 }

@@ -1,21 +1,19 @@
--- Each command is stored in the copies that it has, and what is refused or only reads leaves the state.
+-- Each command is stored in the parts that it has, and what is refused or only reads leaves the state.
 -- Assumes nothing.
 use mathlib.Core.Path.{_≡_, sym, ap, _∙_}
 use mathlib.Core.Bool.{not}
 use native.Mathlib.Omega.{arith}
-use borrow.Author.Needs.{needs}
-use borrow.Author.Tests.{eq-eqb, ne-eqb, ltb-true, ltb-false}
+use borrow.Author.Tests.{ne-eqb, ltb-true, ltb-false}
 use lib.ListN.{length}
 use lib.Seq.{set-out}
 use Rattle.cdi_state.proofs.Arrays.{unmapped}
-use Rattle.cdi_store.specs.Store.{withSlots, slotFrom}
+use Rattle.cdi_store.specs.Store.{settingStored, slotFrom}
 use Rattle.cdi_store.proofs.Tags.{is-read, nothing-stored}
+use borrow.Author.Needs.{needs}
 use Rattle.cdi_store.proofs.store.Statement.{statement}
 use Rattle.cdi_store.proofs.store.Tie as tie
-use Rattle.cdi_store.proofs.store.Reads as reads
-use Rattle.cdi_store.proofs.store.Lts as lts
 
-forty : (s : tie.Start) → length (s .args .state .slots) ≡ 40
+forty : (s : tie.Start) → length (s .args .state .stored .slots) ≡ 40
 forty s = search unmapped
 
 enum-told : tie.Need-enum-told
@@ -63,16 +61,20 @@ is-slot-index-requires c κs = search needs
 cast-i : tie.Need-cast-i
 cast-i c = search needs
 
-slot-from-requires : tie.Need-slot-from-requires
-slot-from-requires c κs = search needs
+bytes-requires : tie.Need-bytes-requires
+bytes-requires c κs = search needs
+
+from-bytes-requires : tie.Need-from-bytes-requires
+from-bytes-requires c κs = search needs
 
 mul-slot : tie.Need-mul-slot
 mul-slot c = search needs
 
 element-set-from-slot : tie.Need-element-set-from-slot
 element-set-from-slot c =
-    let n = c .before .before .before in
-    omega (arith, ltb-true (n .before .before .index2 .given .0 .0 .0) 40 (sym (n .is-slot-index .ensures) ∙ c .before .before .if2 .taken))
+    let t = c .before .before .before in
+    let n = t .before in
+    omega (arith, ltb-true (n .before .before .index2 .given .0 .0 .0) 40 (sym (n .is-slot-index .ensures) ∙ t .if2 .taken))
 
 enum-known-index-3 : tie.Need-enum-known-index-3
 enum-known-index-3 c = search needs
@@ -83,9 +85,11 @@ with-value-requires-5 c κs = search needs
 with-value-requires-6 : tie.Need-with-value-requires-6
 with-value-requires-6 c κs = search needs
 
+-- /work/dev/target/rlib/cdi_state.rlib/interface/lang/src/lib.rt:23:106
 enum-told-3 : tie.Need-enum-told-3
 enum-told-3 c = search needs
 
+-- /work/dev/target/rlib/cdi_state.rlib/interface/lang/src/lib.rt:18:43
 enum-told-4 : tie.Need-enum-told-4
 enum-told-4 c = search needs
 
@@ -109,22 +113,25 @@ returns-4 c =
     rw (d .before .before .before .validated .given .1, d .command2 .given .1, i .index .given .1, c .with-value2 .ensures)
 
 returns-5 : tie.Need-returns-5
+unfolding settingStored
 returns-5 c =
-    let d = c .before .before .before .before in
-    rw (d .before .before .before .validated .given .1, d .command3 .given .1) (simp (eq-eqb _ _ (c .before .if1 .taken)))
+    let t = c .before in
+    let d = t .before .before .before in
+    rw (d .before .before .before .validated .given .1, d .command3 .given .1, t .if1 .taken)
 
 returns-6 : tie.Need-returns-6
 returns-6 c =
-    let t = c .before .before in
+    let t = c .before .before .before in
     let d = t .before .before .before in
     rw (d .before .before .before .validated .given .1, d .command3 .given .1)
     (simp (ne-eqb _ _ (t .if1 .left), c .before .with-value3 .ensures, c .with-value4 .ensures))
 
 returns-7 : tie.Need-returns-7
 returns-7 c =
-    let i = c .before .before .before .before .before in
+    let n = c .before .before .before .before in
+    let i = n .before .before in
     let d = i .before .before .before in
-    rw (d .before .before .before .validated .given .1, d .command4 .given .1, i .index2 .given .1, c .slot-from .ensures)
+    rw (d .before .before .before .validated .given .1, d .command4 .given .1, i .index2 .given .1, c .from-bytes .ensures, c .before .bytes .ensures)
 
 returns-8 : tie.Need-returns-8
 returns-8 c =
@@ -132,14 +139,14 @@ returns-8 c =
     let i = n .before .before in
     let d = i .before .before .before in
     let v = d .before .before .before in
-    let s = v .before .before .before .before in
+    let s = v .before .before .before .before .before in
     let past = ltb-false (i .index2 .given .0 .0 .0) 40 (sym (n .is-slot-index .ensures) ∙ c .if2 .left) in
     rw (v .validated .given .1, d .command4 .given .1, i .index2 .given .1)
-    (sym (ap (withSlots (s .args .state)) (set-out (s .args .state .slots) (i .index2 .given .0 .0 .0) (slotFrom _) (omega (arith, past, forty s)))))
+    (rw (set-out (s .args .state .stored .slots) (i .index2 .given .0 .0 .0) (slotFrom _) (omega (arith, past, forty s))))
 
 returns-9 : tie.Need-returns-9
 returns-9 c =
-    let i = c .before .before .before in
+    let i = c .before .before .before .before in
     let d = i .before .before .before in
     rw (d .before .before .before .validated .given .1, d .command4 .given .1, i .index3 .given .1, c .before .with-value5 .ensures, c .with-value6 .ensures)
 
@@ -173,7 +180,8 @@ store-spec =
     enum-known-index-2
     is-slot-index-requires
     cast-i
-    slot-from-requires
+    bytes-requires
+    from-bytes-requires
     mul-slot
     element-set-from-slot
     enum-known-index-3
