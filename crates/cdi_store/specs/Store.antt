@@ -1,7 +1,7 @@
 -- Document 01, "Items": the state after an accepted command, and after a power-up.
 use Prim.Native.Nat.{ℕ, zero, suc}
 use mathlib.Core.List.{List}
-use mathlib.Core.Bool.{Bool, false, cond, not, _||_}
+use mathlib.Core.Bool.{Bool, false, cond, not}
 use lib.Dec.{eqb}
 use lib.ListN.{getD, take, set, replicate}
 use Rattle.refusal.specs.Refusal.{Result, accepted, refused}
@@ -12,8 +12,7 @@ use Rattle.cdi_command.specs.declared.Index.{Index}
 use Rattle.cdi_command.specs.declared.Index.the-variants.{Slot as SlotAt, Input as InputAt}
 use Rattle.cdi_command.specs.declared.Command.{Command}
 use Rattle.cdi_command.specs.declared.Command.the-variants.{Read, ReadIndexed, ReadNv, ReadNvIndexed, Write, WriteIndexed, Program, ProgramIndexed, SetDefault, EraseAll}
-use Rattle.cdi_command.specs.Command.{read, readNv}
-use Rattle.cdi_command.specs.Payload.{commandCode}
+use Rattle.cdi_command.specs.Kind.{isRead}
 use Rattle.cdi_state.specs.declared.AnalogInput.{AnalogInput}
 use Rattle.cdi_state.specs.declared.Slot.{Slot}
 use Rattle.cdi_state.specs.declared.Settings.{Settings}
@@ -141,9 +140,6 @@ abbrev pub stateAfter : ModuleState → Command → ModuleState
 stateAfter s c = record { stored = storedAfter (s .stored) c; working = workingAfter (s .working) c; live = s .live }
 
 -- all commands but Read and Read NV store
-abbrev pub isRead : Command → Bool
-isRead c = eqb (commandCode c) read || eqb (commandCode c) readNv
-
 abbrev pub stores : Command → Bool
 stores c = not (isRead c)
 

@@ -8,7 +8,8 @@ use lib.ListN.{length}
 use lib.Seq.{set-out}
 use Rattle.cdi_state.proofs.Arrays.{unmapped}
 use Rattle.cdi_store.specs.Store.{settingStored, slotFrom}
-use Rattle.cdi_store.proofs.Tags.{is-read, nothing-stored}
+use Rattle.cdi_command.proofs.Tags.{is-read}
+use Rattle.cdi_store.proofs.Kept.{nothing-stored}
 use borrow.Author.Needs.{needs}
 use Rattle.cdi_store.proofs.store.Statement.{statement}
 use Rattle.cdi_store.proofs.store.Tie as tie

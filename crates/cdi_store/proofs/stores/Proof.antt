@@ -3,7 +3,7 @@
 use mathlib.Core.Path.{sym, ap}
 use mathlib.Core.Bool.{not}
 use borrow.Author.Needs.{needs}
-use Rattle.cdi_store.proofs.Tags.{is-read, is-other}
+use Rattle.cdi_command.proofs.Tags.{is-read, is-other}
 use Rattle.cdi_store.proofs.stores.Statement.{statement}
 use Rattle.cdi_store.proofs.stores.Tie as tie
 use Rattle.cdi_store.proofs.stores.Reads as reads

@@ -1,18 +1,17 @@
--- The reads are the commands with the tags 0 to 3, and they leave the state.
+-- The reads are the commands with the tags 0 to 3.
 -- Assumes nothing.
 use mathlib.Core.Path.{_≡_, refl, ap, _∙_}
-use mathlib.Core.Bool.{true, false, true≢false, not}
+use mathlib.Core.Bool.{true, false, not}
 use mathlib.Core.List.{List, [], _∷_}
 use Prim.Native.Nat.{ℕ}
 use denote.Enum.Declared.{tagOf}
 use mir.Val.{hasKey}
 use types.Run.{OneOf}
 use Rattle.logic.proofs.Keys.{has-key}
 use Rattle.cdi_command.proofs.Command as declared
 use Rattle.cdi_command.specs.declared.Command.{Command}
 use Rattle.cdi_command.specs.declared.Command.the-variants.{Read, ReadIndexed, ReadNv, ReadNvIndexed, Write, WriteIndexed, Program, ProgramIndexed, SetDefault, EraseAll}
-use Rattle.cdi_state.specs.declared.ModuleState.{ModuleState}
-use Rattle.cdi_store.specs.Store.{isRead, stores, stateAfter}
+use Rattle.cdi_command.specs.Kind.{isRead}
 
 abbrev tag : Command → ℕ
 tag c = tagOf declared.the-type c
@@ -40,16 +39,3 @@ is-read c h = by-tags c .0 ∙ has-key readTags (tag c) h
 
 pub is-other : (c : Command) → OneOf otherTags (tag c) → isRead c ≡ false
 is-other c h = by-tags c .1 ∙ ap not (has-key otherTags (tag c) h)
-
--- a command that stores nothing leaves the state
-pub nothing-stored : (s : ModuleState) (c : Command) → stores c ≡ false → stateAfter s c ≡ s
-nothing-stored s (Read x) e = refl
-nothing-stored s (ReadIndexed x i) e = refl
-nothing-stored s (ReadNv x) e = refl
-nothing-stored s (ReadNvIndexed x i) e = refl
-nothing-stored s (Write x v) e = absurd (true≢false e)
-nothing-stored s (WriteIndexed x i v) e = absurd (true≢false e)
-nothing-stored s (Program x v) e = absurd (true≢false e)
-nothing-stored s (ProgramIndexed x i v) e = absurd (true≢false e)
-nothing-stored s SetDefault e = absurd (true≢false e)
-nothing-stored s EraseAll e = absurd (true≢false e)
