@@ -1,7 +1,8 @@
--- A name as it is shown, and a value that fits.
+-- A name as it is shown, the row of an input, a value that fits, and what is shown where nothing is read.
 -- Assumes nothing.
-use Prim.Native.Nat.{ℕ, _+_, _<_, _≤_}
+use Prim.Native.Nat.{ℕ, zero, suc, _+_, _-_, _<_, _≤_}
 use mathlib.Core.Path.{_≡_}
+use mathlib.Core.Bool.{false, true≢false}
 use mathlib.Core.List.{List, [], _∷_, _++_, append-nil, append-assoc}
 use native.Mathlib.Numerals.{add-one}
 use native.Mathlib.Omega.{arith}
@@ -10,7 +11,14 @@ use lib.ListN.{length, getD, take, drop}
 use lib.Seq.{take-suc, take-length, drop-length}
 use Rattle.logic.proofs.Rest.{one-more}
 use Rattle.cdi_value.specs.declared.Shown.{Shown}
-use Rattle.cdi_value.specs.Value.{nameShown, Shows}
+use Rattle.cdi_item.specs.Items.{rowLength}
+use Rattle.cdi_command.specs.declared.Command.{Command}
+use Rattle.cdi_command.specs.declared.Command.the-variants.{Read, ReadIndexed, ReadNv, ReadNvIndexed, Write, WriteIndexed, Program, ProgramIndexed, SetDefault, EraseAll}
+use Rattle.cdi_command.specs.Kind.{isRead}
+use Rattle.cdi_state.specs.declared.Settings.{Settings}
+use Rattle.cdi_state.specs.declared.ModuleState.{ModuleState}
+use Rattle.cdi_state.specs.State.{noInput, inputAt}
+use Rattle.cdi_value.specs.Value.{nameShown, valueRead, valueRoom, Shows}
 
 module _ (l : List ℕ) (i : ℕ) (h : i < length l) where
   one-taken : take (i + 1) l ≡ take i l ++ (getD l i 0 ∷ [])
@@ -34,3 +42,25 @@ shown-all l i e = rw (e, take-length l, drop-length l, append-nil)
 -- a value that fits into some room fits into more
 pub shows-more : {n m : ℕ} {v : List ℕ} {x : Shown} → Shows n v x → n ≤ m → Shows m v x
 shows-more {m = m} h le = record { few = omega (arith, h .few); front = h .front }
+
+-- a value of five bytes is a row
+pub shows-five : {v : List ℕ} {x : Shown} → Shows (length v) v x → length v ≡ 5 → Shows rowLength v x
+shows-five h e = shows-more h (omega arith)
+
+-- inputs count from 1
+pub input-at : (t : Settings) (n : ℕ) → 1 ≤ n → inputAt t n ≡ getD (t .«analog_inputs») (n - 1) noInput
+input-at t zero h = absurd (omega arith)
+input-at t (suc i) h = let e : suc i - 1 ≡ i = omega arith in rw e
+
+-- a command that is no read has no value
+pub none-shown : (s : ModuleState) (c : Command) (r : Shown) → isRead c ≡ false → Shows 0 [] r → Shows (valueRoom c) (valueRead s c) r
+none-shown s (Read x) y e h = absurd (true≢false e)
+none-shown s (ReadIndexed x i) y e h = absurd (true≢false e)
+none-shown s (ReadNv x) y e h = absurd (true≢false e)
+none-shown s (ReadNvIndexed x i) y e h = absurd (true≢false e)
+none-shown s (Write x v) y e h = h
+none-shown s (WriteIndexed x i v) y e h = h
+none-shown s (Program x v) y e h = h
+none-shown s (ProgramIndexed x i v) y e h = h
+none-shown s SetDefault y e h = h
+none-shown s EraseAll y e h = h

@@ -1,17 +1,19 @@
-// The values that Read and Read NV answer with: document 01, "Items". A value is read as a whole before any byte of the response is
-// written, so that nothing but the state is looked at.
+// The value that a command reads: document 01, "Items".
 ghost use mathlib.Core.Path.{_≡_};
 ghost use mathlib.Core.Bool.{cond};
 ghost use mathlib.Core.List.{[], _∷_};
 ghost use Prim.Native.Nat.{_≤_};
 ghost use lib.ListN.{length, take};
 ghost use Rattle.cdi_item.specs.Items.{rowLength};
-ghost use Rattle.cdi_value.specs.Value.{nameShown, settingByte, statusShown, plainValue, valueMax, Shows};
+ghost use Rattle.cdi_value.specs.Value.{nameShown, settingValue, statusShown, plainValue, rowValue, valueRead, valueMax, valueRoom, Shows};
+use cdi_command::Command;
+use cdi_command::Index;
+use cdi_item::NAME_LENGTH;
 use cdi_item::code;
 use cdi_state::HardwareSelection;
 use cdi_state::ModuleState;
-use cdi_state::NAME_LENGTH;
 use cdi_state::Settings;
+use cdi_state::Stored;
 
 // Status bit 7: an event is in the interrupt mask.
 const EVENT_FLAG: u8 = 0x80;
@@ -25,14 +27,14 @@ const LATCH_MASK_FROM_SETTING: u8 = 0x10;
 
 // A value that is read: its bytes stand first, and what stands behind them is of no account.
 pub struct Shown {
-    pub bytes: [u8; 17],
+    pub bytes: [u8; NAME_LENGTH],
     pub length: usize,
 }
 
 impl Shown {
     // What a command that reads nothing shows.
     pub const NOTHING: Shown = Shown {
-        bytes: [0; 17],
+        bytes: [0; NAME_LENGTH],
         length: 0,
     };
 }
@@ -41,13 +43,13 @@ fn show(source: &[u8]) -> Shown
     requires { ⌜ length (now source) ≤ valueMax ⌝ }
     ensures { λ r. ⌜ Shows (length (now (source .entry))) (now (source .entry)) r ⌝ }
 {
-    let mut bytes = [0u8; 17];
+    let mut bytes = [0u8; NAME_LENGTH];
     let length = bytes::copy(source, &mut bytes);
     Shown { bytes, length }
 }
 
 // How many bytes of a name are shown: those before its first 00, and that one.
-fn name_length(name: [u8; 17]) -> usize
+fn name_length(name: [u8; NAME_LENGTH]) -> usize
     ensures { λ r. ⌜ (r ≤ 17) × (take r name ≡ nameShown name) ⌝ }
 {
     let mut i: usize = 0;
@@ -58,28 +60,6 @@ fn name_length(name: [u8; 17]) -> usize
         i += 1;
     }
     NAME_LENGTH
-}
-
-// The byte of an item in one copy of the settings.
-fn setting_byte(settings: Settings, item: u8) -> u8
-    ensures { λ r. ⌜ r ≡ settingByte settings item ⌝ }
-{
-    if item == code::LINE_MASK {
-        return settings.line_mask;
-    }
-    if item == code::LATCH_MASK {
-        return settings.latch_mask;
-    }
-    if item == code::TX_POWER {
-        return settings.tx_power;
-    }
-    if item == code::CONTROL_SOURCE {
-        return settings.control_source;
-    }
-    if item == code::MESSAGE_SELECT {
-        return settings.message_select;
-    }
-    settings.interrupt_mask
 }
 
 fn select(left: bool, a: u8, b: u8) -> u8
@@ -116,7 +96,7 @@ fn status(settings: Settings, hardware: HardwareSelection, flags: u8, events: u8
     [first, power, line, latch]
 }
 
-fn show_name(name: [u8; 17]) -> Shown
+fn show_name(name: [u8; NAME_LENGTH]) -> Shown
     ensures { λ r. ⌜ Shows valueMax (nameShown name) r ⌝ }
 {
     let length = name_length(name);
@@ -129,58 +109,110 @@ fn show_name(name: [u8; 17]) -> Shown
 fn show_byte(byte: u8) -> Shown
     ensures { λ r. ⌜ Shows valueMax (byte ∷ []) r ⌝ }
 {
-    let mut bytes = [0u8; 17];
+    let mut bytes = [0u8; NAME_LENGTH];
     bytes[0] = byte;
     Shown { bytes, length: 1 }
 }
 
-// The value of an item that has no index, its settings from one copy: of any other code the interrupt mask.
-pub fn read_plain(state: ModuleState, nv: bool, item: u8) -> Shown
-    ensures { λ r. ⌜ Shows valueMax (plainValue state (cond nv (state .nv) (state .working)) item) r ⌝ }
+// The byte of an item in one copy of the settings; nothing for a code that is no setting's.
+fn show_setting(settings: Settings, item: u8) -> Shown
+    ensures { λ r. ⌜ Shows valueMax (settingValue settings item) r ⌝ }
+{
+    if item == code::LINE_MASK {
+        return show_byte(settings.line_mask);
+    }
+    if item == code::LATCH_MASK {
+        return show_byte(settings.latch_mask);
+    }
+    if item == code::TX_POWER {
+        return show_byte(settings.tx_power);
+    }
+    if item == code::CONTROL_SOURCE {
+        return show_byte(settings.control_source);
+    }
+    if item == code::MESSAGE_SELECT {
+        return show_byte(settings.message_select);
+    }
+    if item == code::INTERRUPT_MASK {
+        return show_byte(settings.interrupt_mask);
+    }
+    Shown::NOTHING
+}
+
+// The value of an item that has no index, its settings from one copy.
+fn read_plain(state: ModuleState, settings: Settings, item: u8) -> Shown
+    ensures { λ r. ⌜ Shows valueMax (plainValue state settings item) r ⌝ }
 {
     if item == code::NAME {
-        let name = state.name;
+        let name = state.stored.name;
         return show_name(name);
     }
     if item == code::FIRMWARE {
-        let firmware = state.firmware;
+        let firmware = state.stored.firmware;
         return show(&firmware);
     }
     if item == code::SERIAL {
-        let serial = state.serial;
+        let serial = state.stored.serial;
         return show(&serial);
     }
     if item == code::ADDRESS {
-        let address = state.address;
+        let address = state.stored.address;
         return show(&address);
     }
     if item == code::LINES {
-        let lines = state.lines;
+        let lines = state.live.lines;
         return show(&lines);
     }
     if item == code::RSSI {
-        let rssi = state.rssi;
+        let rssi = state.live.rssi;
         return show(&rssi);
     }
     if item == code::LADJ {
-        return show_byte(state.ladj);
+        return show_byte(state.live.ladj);
     }
     if item == code::STATUS {
-        let bytes = status(state.working, state.hardware, state.flags, state.events);
+        let bytes = status(state.working.settings, state.live.hardware, state.live.flags, state.live.events);
         return show(&bytes);
     }
     if item == code::EVENTS {
-        return show_byte(state.events);
+        return show_byte(state.live.events);
     }
-    if nv {
-        return show_byte(setting_byte(state.nv, item));
-    }
-    show_byte(setting_byte(state.working, item))
+    show_setting(settings, item)
 }
 
-// A row of item 16 or 18 as a value.
-pub fn show_row(row: [u8; 5]) -> Shown
-    ensures { λ r. ⌜ Shows rowLength row r ⌝ }
+// A row of an indexed item: slots count from 0, inputs from 1. Nothing where there is no such row.
+fn read_row(stored: Stored, settings: Settings, index: Index) -> Shown
+    ensures { λ r. ⌜ Shows rowLength (rowValue stored settings index) r ⌝ }
 {
-    show(&row)
+    match index {
+        Index::Slot(at) => {
+            if !cdi_item::is_slot_index(at.0) {
+                return Shown::NOTHING;
+            }
+            let slot = stored.slots[at.0 as usize];
+            let row = slot.bytes();
+            show(&row)
+        }
+        Index::Input(number) => {
+            if !cdi_item::is_input_number(number.0) {
+                return Shown::NOTHING;
+            }
+            let input = settings.analog_inputs[(number.0 - 1) as usize];
+            let row = input.bytes();
+            show(&row)
+        }
+    }
+}
+
+// What a command reads: Read the working copy, Read NV the stored one, any other command nothing.
+pub fn read(state: ModuleState, command: Command) -> Shown
+    ensures { λ r. ⌜ Shows (valueRoom command) (valueRead state command) r ⌝ }
+{
+    match command {
+        Command::Read(item) => read_plain(state, state.working.settings, item.code),
+        Command::ReadIndexed(_, index) => read_row(state.stored, state.working.settings, index),
+        Command::ReadNv(item) => read_plain(state, state.stored.settings, item.code),
+        Command::ReadNvIndexed(_, index) => read_row(state.stored, state.stored.settings, index),
+        _ => Shown::NOTHING,
+    }
 }

@@ -1,12 +1,11 @@
 -- The tests are those of the definition, in the same order, and each value is shown by the function for its kind.
 -- Assumes nothing.
 use mathlib.Core.Path.{_≡_, sym, ap}
-use mathlib.Core.List.{[], _∷_}
 use native.Mathlib.Omega.{arith}
 use borrow.Author.Tests.{ne-eqb}
 use lib.ListN.{length}
-use Rattle.cdi_state.specs.declared.Settings.{Settings}
-use Rattle.cdi_value.specs.Value.{settingByte, statusShown, plainValue}
+use Rattle.cdi_state.proofs.Arrays.{unmapped}
+use Rattle.cdi_value.specs.Value.{settingValue, statusShown, plainValue}
 use Rattle.cdi_value.proofs.Values.{shows-more}
 use borrow.Author.Needs.{needs}
 use Rattle.cdi_value.proofs.read_plain.Statement.{statement}
@@ -14,8 +13,8 @@ use Rattle.cdi_value.proofs.read_plain.Tie as tie
 
 lengths : (z : tie.Start) →
     let s = z .args .state in
-    (length (s .firmware) ≡ 3) × (length (s .serial) ≡ 4) × (length (s .address) ≡ 4) × (length (s .lines) ≡ 2) × (length (s .rssi) ≡ 2)
-lengths z = (search needs, search needs, search needs, search needs, search needs)
+    (length (s .stored .firmware) ≡ 3) × (length (s .stored .serial) ≡ 4) × (length (s .stored .address) ≡ 4) × (length (s .live .lines) ≡ 2) × (length (s .live .rssi) ≡ 2)
+lengths z = (search unmapped, search unmapped, search unmapped, search unmapped, search unmapped)
 
 status-length : (c : tie.After-status) → length (c .status .result) ≡ 4
 unfolding statusShown
@@ -23,9 +22,9 @@ status-length c = ap length (c .status .ensures)
 
 other : (c : tie.Else9) →
     let a = c .before .before .before .before .before .before .before .before .before .args in
-    (t : Settings) → plainValue (a .state) t (a .item) ≡ settingByte t (a .item) ∷ []
+    plainValue (a .state) (a .settings) (a .item) ≡ settingValue (a .settings) (a .item)
 unfolding plainValue
-other c t =
+other c =
     let d = c .before .before .before in
     let e = d .before .before .before in
     simp (
@@ -136,29 +135,11 @@ returns-9 : tie.Need-returns-9
 unfolding plainValue
 returns-9 c = rw (c .before .if9 .taken) (c .show-byte2 .ensures)
 
-setting-byte-requires : tie.Need-setting-byte-requires
-setting-byte-requires c κs = search needs
-
-show-byte-requires-3 : tie.Need-show-byte-requires-3
-show-byte-requires-3 c κs = search needs
+show-setting-requires : tie.Need-show-setting-requires
+show-setting-requires c κs = search needs
 
 returns-10 : tie.Need-returns-10
-returns-10 c =
-    let b = c .before in
-    let t = b .before in
-    rw (other (t .before), t .if10 .taken, ← b .setting-byte .ensures) (c .show-byte3 .ensures)
-
-setting-byte-requires-2 : tie.Need-setting-byte-requires-2
-setting-byte-requires-2 c κs = search needs
-
-show-byte-requires-4 : tie.Need-show-byte-requires-4
-show-byte-requires-4 c κs = search needs
-
-returns-11 : tie.Need-returns-11
-returns-11 c =
-    let b = c .before in
-    let t = b .before in
-    rw (other (t .before), t .if10 .left, ← b .setting-byte2 .ensures) (c .show-byte4 .ensures)
+returns-10 c = rw (other (c .before)) (c .show-setting .ensures)
 
 pub read-plain-spec : {M : Type 1} → statement M
 read-plain-spec =
@@ -189,9 +170,5 @@ read-plain-spec =
     returns-8
     show-byte-requires-2
     returns-9
-    setting-byte-requires
-    show-byte-requires-3
-    returns-10
-    setting-byte-requires-2
-    show-byte-requires-4
-    returns-11)
+    show-setting-requires
+    returns-10)
