@@ -6,18 +6,17 @@ use mathlib.Core.Path.{_≡_, refl, sym, _∙_}
 use mathlib.Core.Bool.{true, false, and-eq-true-iff}
 use mathlib.Core.List.{List}
 use native.Mathlib.Nat.{min-eq-left}
-use lib.Dec.{eqb, ltb}
+use lib.Dec.{ltb}
 use lib.ListN.{length, length-take}
-use Rattle.logic.proofs.Choice.{choice, neither}
+use Rattle.logic.proofs.Choice.{choice}
 use Rattle.refusal.specs.Refusal.{Result, accepted as acceptedAs, refused}
 use Rattle.cdi_frame.specs.declared.Span.{Span}
 use Rattle.cdi_frame.specs.Frame.{wakeLimit, readFrame, payloadIn}
 use Rattle.cdi_item.specs.declared.Item.{Item}
 use Rattle.cdi_item.specs.declared.Value.{Value}
-use Rattle.cdi_item.specs.Items as item
 use Rattle.cdi_item.specs.Items.{P, itemOf, permitted}
 use Rattle.cdi_item.specs.Values.{valueBytes, acceptedValue}
-use Rattle.cdi_item.proofs.Consistent.{found-indexed, found-programmable, found-row, found-short}
+use Rattle.cdi_item.proofs.Consistent.{found-programmable, found-row, found-short}
 use Rattle.cdi_item.proofs.Trimmed.{accepted-trimmed}
 use Rattle.cdi_command.specs.declared.Index.{Index}
 use Rattle.cdi_command.specs.declared.Command.{Command}
@@ -80,13 +79,11 @@ module _ (x : Item) (listed : itemOf (x .code) ≡ acceptedAs x) where
   -- what Program takes on an item without an index can be stored under its key, ...
   plain-storable : (v : Value) → permitted x P ≡ true → x .indexed ≡ false → acceptedValue (x .code) (valueBytes v) ≡ true
       → Storable (keyOf (x .code)) (valueIn x v)
-  plain-storable v p f a =
-      let other = neither (eqb (x .code) item.analogInput) (eqb (x .code) item.pairedModule) (sym (found-indexed (x .code) x listed) ∙ f) in
-      record {
-        named = key-there x listed;
-        sized = value-length v p ∙ key-width x listed p f;
-        valued = plain-agrees (x .code) (valueIn x v) (other .0) (other .1) ∙ accepted-trimmed x v listed ∙ a;
-      }
+  plain-storable v p f a = record {
+    named = key-there x listed p f;
+    sized = value-length v p ∙ key-width x listed p f;
+    valued = plain-agrees (x .code) (valueIn x v) (key-there x listed p f) ∙ accepted-trimmed x v listed ∙ a;
+  }
 
   -- ... and what it takes on a row under the row's
   row-storable : (i : Index) (v : Value) → permitted x P ≡ true → x .indexed ≡ true → fits x i ≡ true
@@ -100,9 +97,9 @@ module _ (x : Item) (listed : itemOf (x .code) ≡ acceptedAs x) where
 -- the action of a command that the item list has is checked
 well-formed-checked : (c : Command) → WellFormed c → Checked (actionOf c)
 unfolding actionOf
-well-formed-checked (Read x) p = read-checked (sourceOf (x .code)) (source-there x (p .listed))
+well-formed-checked (Read x) p = read-checked (sourceOf (x .code)) (source-there x (p .listed) (p .form))
 well-formed-checked (ReadIndexed x i) (p, e) = read-checked (held (rowOf i)) (row-named x i e)
-well-formed-checked (ReadNv x) p = read-nv-checked (sourceOf (x .code)) (source-there x (p .listed))
+well-formed-checked (ReadNv x) p = read-nv-checked (sourceOf (x .code)) (source-there x (p .listed) (p .form))
 well-formed-checked (ReadNvIndexed x i) (p, e) = read-nv-checked (held (rowOf i)) (row-named x i e)
 well-formed-checked (Write x v) (p, a) =
     let programmable = found-programmable (x .code) x (p .listed) (p .permits) in

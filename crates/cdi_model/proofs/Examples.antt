@@ -14,7 +14,7 @@ use Rattle.cdi_frame.specs.Frame.{wakes, lengthAt, readFrame}
 use Rattle.cdi_item.specs.Items.{items, itemIn, itemOf}
 use Rattle.cdi_item.specs.Values.{acceptedValue}
 use Rattle.cdi_command.specs.Payload.{responseBufferMin}
-use Rattle.cdi_command.specs.Command.{select, commandOn, validateItem, isServed, isHeadLengthRight, validatePayload}
+use Rattle.cdi_command.specs.Command.{select, commandOn, parseItem, isServed, isHeadLengthRight, parsePayload, validatePayload}
 use Rattle.cdi_model.specs.Cells.{nv, working, txPower, controlSource, messageSelect, interruptMask, setting, input, slot, Single, name, firmware, serial, lines, rssi, ladj, events, flags, hardwarePower, hardwareLineMask, hardwareLatchMask, Cell, copyOf, single, same}
 use Rattle.cdi_model.specs.Values.{upToZero}
 use Rattle.cdi_model.specs.Factory.{factoryCells}
@@ -391,7 +391,7 @@ resultsOf r = resultsBy (isValid (r .start)) (r .start) (steps r)
 
 runs-hold : map resultsOf runs ≡ map expected runs
 unfolding written items itemIn itemOf acceptedValue wakes lengthAt readFrame
-    select commandOn validateItem isServed isHeadLengthRight validatePayload upToZero actionOf
+    select commandOn parseItem isServed isHeadLengthRight parsePayload validatePayload upToZero actionOf
     stores allBelow isValid decidePayload decideBlock gives valueRead responsePayload resultOf
 runs-hold = refl
 

@@ -42,43 +42,46 @@ pub row-width : (i : Index) → width (rowOf i) ≡ 5
 row-width (Slot i) = refl
 row-width (Input n) = refl
 
--- an item's source and key are there; what Program takes has its key's length; what Write takes has a working copy, and is no slot
+-- an item without an index has a source that is there; what Program takes has a key that is there, of its length; what Write takes has
+-- a working copy, and is no slot
 abbrev keyed : Item → Bool
 keyed x =
-    isSource (sourceOf (x .code)) && (isKey (keyOf (x .code)) &&
-    ((not (permitted x P) || (x .indexed || eqb (x .length) (width (keyOf (x .code))))) &&
-    (not (permitted x W) || cond (x .indexed) (eqb (x .code) item.analogInput) (hasWorking (keyOf (x .code))))))
+    (x .indexed || isSource (sourceOf (x .code))) &&
+    ((not (permitted x P) || (x .indexed || (isKey (keyOf (x .code)) && eqb (x .length) (width (keyOf (x .code)))))) &&
+    (not (permitted x W) || cond (x .indexed) (eqb (x .code) item.analogInput) (hasWorking (keyOf (x .code)))))
 
 items-keyed : all keyed items ≡ true
 unfolding items
 items-keyed = refl
 
 module _ (x : Item) (listed : itemOf (x .code) ≡ accepted x) where
-  parts : (isSource (sourceOf (x .code)) ≡ true) × (isKey (keyOf (x .code)) ≡ true)
-      × (not (permitted x P) || (x .indexed || eqb (x .length) (width (keyOf (x .code)))) ≡ true)
+  parts : (x .indexed || isSource (sourceOf (x .code)) ≡ true)
+      × (not (permitted x P) || (x .indexed || (isKey (keyOf (x .code)) && eqb (x .length) (width (keyOf (x .code))))) ≡ true)
       × (not (permitted x W) || cond (x .indexed) (eqb (x .code) item.analogInput) (hasWorking (keyOf (x .code))) ≡ true)
   parts =
       let p1 = and-eq-true-iff _ _ .0 (found keyed items-keyed (x .code) x listed .0) in
       let p2 = and-eq-true-iff _ _ .0 (p1 .1) in
-      let p3 = and-eq-true-iff _ _ .0 (p2 .1) in
-      (p1 .0, p2 .0, p3 .0, p3 .1)
+      (p1 .0, p2 .0, p2 .1)
 
-  -- what an item without an index is read from is there, and so is its key
-  pub source-there : isSource (sourceOf (x .code)) ≡ true
-  source-there = parts .0
+  -- what an item without an index is read from is there
+  pub source-there : x .indexed ≡ false → isSource (sourceOf (x .code)) ≡ true
+  source-there f = rw f at (parts .0)
 
-  pub key-there : isKey (keyOf (x .code)) ≡ true
-  key-there = parts .1
+  -- what Program takes has a key that is there, whose values have the item's length
+  programmed-key : permitted x P ≡ true → x .indexed ≡ false → (isKey (keyOf (x .code)) ≡ true) × (eqb (x .length) (width (keyOf (x .code))) ≡ true)
+  programmed-key p f = and-eq-true-iff _ _ .0 (rw f at (implied _ _ (parts .1) p))
 
-  -- its key's values have its length
+  pub key-there : permitted x P ≡ true → x .indexed ≡ false → isKey (keyOf (x .code)) ≡ true
+  key-there p f = programmed-key p f .0
+
   pub key-width : permitted x P ≡ true → x .indexed ≡ false → x .length ≡ width (keyOf (x .code))
-  key-width p f = eqb-true (x .length) (width (keyOf (x .code))) (rw f at (implied _ _ (parts .2) p))
+  key-width p f = eqb-true (x .length) (width (keyOf (x .code))) (programmed-key p f .1)
 
   -- what Write takes has a working copy, ...
   pub plain-writable : permitted x W ≡ true → x .indexed ≡ false → hasWorking (keyOf (x .code)) ≡ true
-  plain-writable w f = rw f at (implied _ _ (parts .3) w)
+  plain-writable w f = rw f at (implied _ _ (parts .2) w)
 
   -- ... also as a row: no slot is written
   pub row-writable : (i : Index) → permitted x W ≡ true → x .indexed ≡ true → fits x i ≡ true → hasWorking (rowOf i) ≡ true
-  row-writable (Slot i) w t e = sym (rw (slot-in-range x i e .0)) ∙ rw t at (implied _ _ (parts .3) w)
+  row-writable (Slot i) w t e = sym (rw (slot-in-range x i e .0)) ∙ rw t at (implied _ _ (parts .2) w)
   row-writable (Input n) w t e = refl

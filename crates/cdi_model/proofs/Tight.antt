@@ -14,7 +14,7 @@ use Rattle.logic.proofs.Choice.{choice}
 use Rattle.refusal.specs.Refusal.{valueNotAccepted}
 use Rattle.cdi_item.specs.Items.{items, itemIn, itemOf}
 use Rattle.cdi_item.specs.Values.{acceptedValue}
-use Rattle.cdi_command.specs.Command.{select, commandOn, validateItem, isServed, isHeadLengthRight, validatePayload}
+use Rattle.cdi_command.specs.Command.{select, commandOn, parseItem, isServed, isHeadLengthRight, parsePayload, validatePayload}
 use Rattle.cdi_model.specs.Cells.{nv, working, lineMask, latchMask, txPower, controlSource, messageSelect, interruptMask, setting, input, slot, address, name, firmware, serial, lines, rssi, ladj, events, flags, hardwarePower, hardwareLineMask, hardwareLatchMask, Cell, copyOf, single, Key, hasWorking, isKey, isCell, same}
 use Rattle.cdi_model.specs.Values.{upToZero}
 use Rattle.cdi_model.specs.Action.{Action, write, program, actionOf}
@@ -75,7 +75,7 @@ every-cell (single hardwareLatchMask) e = refl
 
 -- ---- the samples: no one is refused, ...
 pub samples-accepted : (length samplePayloads ≡ 167) × (all (λ (p : List ℕ). isAccepted (decidePayload p)) samplePayloads ≡ true)
-unfolding samplePayloads items flatMap decidePayload itemIn itemOf acceptedValue select commandOn validateItem isServed isHeadLengthRight validatePayload
+unfolding samplePayloads items flatMap decidePayload itemIn itemOf acceptedValue select commandOn parseItem isServed isHeadLengthRight parsePayload validatePayload
 samples-accepted = (refl, refl)
 
 -- ... the states differ in every cell, and are valid, also with a cell from the other
@@ -171,7 +171,7 @@ unpadded-tight d checked =
 -- it names no cell too many, ...
 table-unpadded : all isUnpadded sampleDecisions ≡ true
 unfolding sampleDecisions samplePayloads items flatMap decidePayload itemIn itemOf acceptedValue
-    select commandOn validateItem isServed isHeadLengthRight validatePayload stateOf everyCell reads stores gives valueRead responsePayload upToZero actionOf
+    select commandOn parseItem isServed isHeadLengthRight parsePayload validatePayload stateOf everyCell reads stores gives valueRead responsePayload upToZero actionOf
 table-unpadded = refl
 
 payloads-tight : (ps : List (List ℕ)) → all isUnpadded (map decidePayload ps) ≡ true → all isTight (map decidePayload ps) ≡ true

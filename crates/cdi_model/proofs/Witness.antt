@@ -10,7 +10,7 @@ use Rattle.sequence.specs.Model.{Apart}
 use Rattle.cdi_frame.specs.Frame.{wakes, lengthAt, readFrame}
 use Rattle.cdi_item.specs.Items.{items, itemIn, itemOf}
 use Rattle.cdi_item.specs.Values.{acceptedValue}
-use Rattle.cdi_command.specs.Command.{select, commandOn, validateItem, isServed, isHeadLengthRight, validatePayload}
+use Rattle.cdi_command.specs.Command.{select, commandOn, parseItem, isServed, isHeadLengthRight, parsePayload, validatePayload}
 use Rattle.cdi_model.specs.Cells.{nv, working, txPower, messageSelect, setting, Cell, copyOf}
 use Rattle.cdi_model.specs.Step.{request, Step, powerUp, command}
 use Rattle.cdi_model.specs.Action.{read, readNv, actionOf}
@@ -47,7 +47,7 @@ pub record Witnesses : Type 0 where
   pub status-and-14 : Apart model factoryCells readStatusBlock (writeBlock 0x14 0x01) → ⊥
 
 pub witnesses : Witnesses
-unfolding items itemIn itemOf acceptedValue wakes lengthAt readFrame select commandOn validateItem isServed isHeadLengthRight validatePayload
+unfolding items itemIn itemOf acceptedValue wakes lengthAt readFrame select commandOn parseItem isServed isHeadLengthRight parsePayload validatePayload
     actionOf stores allBelow isValid decide decidePayload decideBlock gives
 witnesses = record {
   refused-reads-no-cell = refused-reads-none factoryCells refusedBlock refl;

@@ -24,6 +24,10 @@ pub data Action : Type 0 where
   write program : Key → List ℕ → Action
   setDefault eraseAll : Action
 
+-- the key of a code that is no item's: inputs count from 1, so it names no cell
+abbrev pub noKey : Key
+noKey = input 0
+
 -- the items that can be stored and have no index
 abbrev pub keyOf : ℕ → Key
 keyOf code =
@@ -33,7 +37,7 @@ keyOf code =
     (cond (eqb code item.txPower) (setting txPower)
     (cond (eqb code item.controlSource) (setting controlSource)
     (cond (eqb code item.messageSelect) (setting messageSelect)
-    (setting interruptMask))))))
+    (cond (eqb code item.interruptMask) (setting interruptMask) noKey))))))
 
 -- all items that have no index
 abbrev pub sourceOf : ℕ → Source

@@ -21,11 +21,12 @@ use Rattle.cdi_command.specs.declared.Command.the-variants.{Read, ReadIndexed, 
 use Rattle.cdi_command.specs.Payload.{valueIn}
 use Rattle.cdi_state.specs.declared.Slot.{Slot}
 use Rattle.cdi_state.specs.declared.Settings.{Settings}
+use Rattle.cdi_state.specs.declared.Stored.{Stored}
 use Rattle.cdi_state.specs.declared.ModuleState.{ModuleState}
 use Rattle.cdi_state.specs.State.{inputBytes, slotBytes, noSlot, defaultSettings, emptySlot, ArrayLengths, inputAt}
 use Rattle.cdi_state.specs.State.{place}
-use Rattle.cdi_store.specs.Store.{withSettings, withAddress, settingStored, inputFrom, inputStored, slotFrom, addressFrom, plainWritten, rowWritten, plainProgrammed, rowProgrammed, slotProgrammed, defaulted, erased, stateAfter, stateAtPowerUp}
-use Rattle.cdi_model.specs.Cells.{nv, working, Setting, lineMask, latchMask, txPower, controlSource, messageSelect, interruptMask, settingNumber, Key, setting, input, slot, address, name, firmware, serial, lines, rssi, ladj, events, flags, hardwarePower, hardwareLineMask, hardwareLatchMask, Cell, stored, single, hasWorking, isKey, isCell, sameKey, same}
+use Rattle.cdi_store.specs.Store.{withSettings, withAddress, settingStored, inputFrom, inputStored, slotFrom, addressFrom, slotProgrammed, stateAfter, stateAtPowerUp}
+use Rattle.cdi_model.specs.Cells.{nv, working, Setting, lineMask, latchMask, txPower, controlSource, messageSelect, interruptMask, settingNumber, Key, setting, input, slot, address, name, firmware, serial, lines, rssi, ladj, events, flags, hardwarePower, hardwareLineMask, hardwareLatchMask, Cell, copyOf, single, hasWorking, isKey, isCell, sameKey, same}
 use Rattle.cdi_model.specs.Action.{Source, held, one, status, write, program, setDefault, eraseAll, keyOf, rowOf, sourceOf, readFrom, readNvFrom, actionOf}
 use Rattle.cdi_model.specs.Table.{actionStores, powerUpStores}
 use Rattle.cdi_model.specs.Values.{defaultValue}
@@ -53,37 +54,41 @@ heldUnder t (slot i) = []
 heldUnder t address = []
 
 -- the copy u is t with v under the key k
-abbrev Stored : Settings → Settings → Key → List ℕ → Type 0
-Stored t u k v = (j : Key) → heldUnder u j ≡ cond (sameKey j k) v (heldUnder t j)
+abbrev Updated : Settings → Settings → Key → List ℕ → Type 0
+Updated t u k v = (j : Key) → heldUnder u j ≡ cond (sameKey j k) v (heldUnder t j)
 
 setting-stored : (t : Settings) (code byte : ℕ) (y : Setting) → place code ≡ settingNumber y
-    → Stored t (settingStored t code byte) (setting y) (byte ∷ [])
+    → Updated t (settingStored t code byte) (setting y) (byte ∷ [])
 setting-stored t code byte y e (setting x) = setting-put t code byte x y e
 setting-stored t code byte y e (input n) = ap inputBytes (setting-leaves-inputs t code byte n)
 setting-stored t code byte y e (slot i) = refl
 setting-stored t code byte y e address = refl
 
 input-stored : (t : Settings) (n : ℕ) (v : Value) → length (t .«analog_inputs») ≡ 2 → 1 ≤ n → n ≤ 2
-    → Stored t (inputStored t n (inputFrom v)) (input n) (valueBytes v)
+    → Updated t (inputStored t n (inputFrom v)) (input n) (valueBytes v)
 input-stored t n v h p q (setting x) = ap (λ (b : ℕ). b ∷ []) (input-leaves-settings t n (inputFrom v) x)
 input-stored t n v h p q (input i) = input-put t i n (inputFrom v) h p q
 input-stored t n v h p q (slot i) = refl
 input-stored t n v h p q address = refl
 
 -- ---- the whole state
+-- a state with another stored part and other working settings
+abbrev parted : ModuleState → Stored → Settings → ModuleState
+parted s t w = record { stored = t; working = record { settings = w }; live = s .live }
+
 -- a working copy with a value under a key: Write
-written-cells : (s : ModuleState) (w : Settings) (k : Key) (v : List ℕ) → Stored (s .working) w k v
-    → (c : Cell) → cells (withSettings s (s .nv) w) c ≡ cond (same c (stored working k)) v (cells s c)
+written-cells : (s : ModuleState) (w : Settings) (k : Key) (v : List ℕ) → Updated (s .working .settings) w k v
+    → (c : Cell) → cells (parted s (s .stored) w) c ≡ cond (same c (copyOf working k)) v (cells s c)
 unfolding cells
-written-cells s w k v h (stored nv (setting x)) = refl
-written-cells s w k v h (stored nv (input n)) = refl
-written-cells s w k v h (stored nv (slot i)) = refl
-written-cells s w k v h (stored nv address) = refl
-written-cells s w k v h (stored working (setting x)) = h (setting x)
-written-cells s w k v h (stored working (input n)) = h (input n)
-written-cells s w k v h (stored working (slot i)) = h (slot i)
-written-cells s w k v h (stored working address) = h address
-written-cells s w k v h (single x) = same-singles (withSettings s (s .nv) w) s x refl
+written-cells s w k v h (copyOf nv (setting x)) = refl
+written-cells s w k v h (copyOf nv (input n)) = refl
+written-cells s w k v h (copyOf nv (slot i)) = refl
+written-cells s w k v h (copyOf nv address) = refl
+written-cells s w k v h (copyOf working (setting x)) = h (setting x)
+written-cells s w k v h (copyOf working (input n)) = h (input n)
+written-cells s w k v h (copyOf working (slot i)) = h (slot i)
+written-cells s w k v h (copyOf working address) = h address
+written-cells s w k v h (single x) = same-singles (parted s (s .stored) w) s x refl
 
 -- what has a working copy is no slot, and not the address
 no-slot : (k : Key) (i : ℕ) → hasWorking k ≡ true → sameKey (slot i) k ≡ false
@@ -100,46 +105,46 @@ no-address address e = cc
 
 -- both copies with it: Program
 abbrev programStores : Key → Cell → Bool
-programStores k c = (hasWorking k && same c (stored working k)) || same c (stored nv k)
+programStores k c = (hasWorking k && same c (copyOf working k)) || same c (copyOf nv k)
 
-programmed-cells : (s : ModuleState) (n w : Settings) (k : Key) (v : List ℕ) → hasWorking k ≡ true → Stored (s .nv) n k v → Stored (s .working) w k v
-    → (c : Cell) → cells (withSettings s n w) c ≡ cond (programStores k c) v (cells s c)
+programmed-cells : (s : ModuleState) (n w : Settings) (k : Key) (v : List ℕ) → hasWorking k ≡ true → Updated (s .stored .settings) n k v → Updated (s .working .settings) w k v
+    → (c : Cell) → cells (parted s (withSettings (s .stored) n) w) c ≡ cond (programStores k c) v (cells s c)
 unfolding cells
-programmed-cells s n w k v e f h (stored nv (setting x)) = rw e (f (setting x))
-programmed-cells s n w k v e f h (stored nv (input i)) = rw e (f (input i))
-programmed-cells s n w k v e f h (stored nv (slot i)) = rw (e, no-slot k i e)
-programmed-cells s n w k v e f h (stored nv address) = rw (e, no-address k e)
-programmed-cells s n w k v e f h (stored working (setting x)) = rw (e, or-false (sameKey (setting x) k)) (h (setting x))
-programmed-cells s n w k v e f h (stored working (input i)) = rw (e, or-false (sameKey (input i) k)) (h (input i))
-programmed-cells s n w k v e f h (stored working (slot i)) = rw (e, or-false (sameKey (slot i) k)) (h (slot i))
-programmed-cells s n w k v e f h (stored working address) = rw (e, or-false (sameKey address k)) (h address)
-programmed-cells s n w k v e f h (single x) = rw e (same-singles (withSettings s n w) s x refl)
+programmed-cells s n w k v e f h (copyOf nv (setting x)) = rw e (f (setting x))
+programmed-cells s n w k v e f h (copyOf nv (input i)) = rw e (f (input i))
+programmed-cells s n w k v e f h (copyOf nv (slot i)) = rw (e, no-slot k i e)
+programmed-cells s n w k v e f h (copyOf nv address) = rw (e, no-address k e)
+programmed-cells s n w k v e f h (copyOf working (setting x)) = rw (e, or-false (sameKey (setting x) k)) (h (setting x))
+programmed-cells s n w k v e f h (copyOf working (input i)) = rw (e, or-false (sameKey (input i) k)) (h (input i))
+programmed-cells s n w k v e f h (copyOf working (slot i)) = rw (e, or-false (sameKey (slot i) k)) (h (slot i))
+programmed-cells s n w k v e f h (copyOf working address) = rw (e, or-false (sameKey address k)) (h address)
+programmed-cells s n w k v e f h (single x) = rw e (same-singles (parted s (withSettings (s .stored) n) w) s x refl)
 
 -- one slot
-slot-cells : (s : ModuleState) (i : ℕ) (x : Slot) → length (s .slots) ≡ 40 → i < 40
-    → (c : Cell) → cells (slotProgrammed s i x) c ≡ cond (programStores (slot i) c) (slotBytes x) (cells s c)
+slot-cells : (s : ModuleState) (i : ℕ) (x : Slot) → length (s .stored .slots) ≡ 40 → i < 40
+    → (c : Cell) → cells (parted s (slotProgrammed (s .stored) i x) (s .working .settings)) c ≡ cond (programStores (slot i) c) (slotBytes x) (cells s c)
 unfolding cells
-slot-cells s i x h p (stored nv (setting y)) = refl
-slot-cells s i x h p (stored nv (input n)) = refl
-slot-cells s i x h p (stored nv (slot j)) = put-at slotBytes (s .slots) j i x noSlot (omega arith)
-slot-cells s i x h p (stored nv address) = refl
-slot-cells s i x h p (stored working (setting y)) = refl
-slot-cells s i x h p (stored working (input n)) = refl
-slot-cells s i x h p (stored working (slot j)) = refl
-slot-cells s i x h p (stored working address) = refl
-slot-cells s i x h p (single y) = same-singles (slotProgrammed s i x) s y refl
+slot-cells s i x h p (copyOf nv (setting y)) = refl
+slot-cells s i x h p (copyOf nv (input n)) = refl
+slot-cells s i x h p (copyOf nv (slot j)) = put-at slotBytes (s .stored .slots) j i x noSlot (omega arith)
+slot-cells s i x h p (copyOf nv address) = refl
+slot-cells s i x h p (copyOf working (setting y)) = refl
+slot-cells s i x h p (copyOf working (input n)) = refl
+slot-cells s i x h p (copyOf working (slot j)) = refl
+slot-cells s i x h p (copyOf working address) = refl
+slot-cells s i x h p (single y) = same-singles (parted s (slotProgrammed (s .stored) i x) (s .working .settings)) s y refl
 
-address-cells : (s : ModuleState) (a : List ℕ) (c : Cell) → cells (withAddress s a) c ≡ cond (programStores address c) a (cells s c)
+address-cells : (s : ModuleState) (a : List ℕ) (c : Cell) → cells (parted s (withAddress (s .stored) a) (s .working .settings)) c ≡ cond (programStores address c) a (cells s c)
 unfolding cells
-address-cells s a (stored nv (setting y)) = refl
-address-cells s a (stored nv (input n)) = refl
-address-cells s a (stored nv (slot j)) = refl
-address-cells s a (stored nv address) = refl
-address-cells s a (stored working (setting y)) = refl
-address-cells s a (stored working (input n)) = refl
-address-cells s a (stored working (slot j)) = refl
-address-cells s a (stored working address) = refl
-address-cells s a (single y) = same-singles (withAddress s a) s y refl
+address-cells s a (copyOf nv (setting y)) = refl
+address-cells s a (copyOf nv (input n)) = refl
+address-cells s a (copyOf nv (slot j)) = refl
+address-cells s a (copyOf nv address) = refl
+address-cells s a (copyOf working (setting y)) = refl
+address-cells s a (copyOf working (input n)) = refl
+address-cells s a (copyOf working (slot j)) = refl
+address-cells s a (copyOf working address) = refl
+address-cells s a (single y) = same-singles (parted s (withAddress (s .stored) a) (s .working .settings)) s y refl
 
 -- both copies of all settings: Set Default
 default-held : (k : Key) → isKey k ≡ true → hasWorking k ≡ true → heldUnder defaultSettings k ≡ defaultValue k
@@ -156,42 +161,42 @@ default-held (input (suc (suc (suc n)))) e w = absurd (omega (arith, input-bound
 default-held (slot i) e w = cc
 default-held address e w = cc
 
-default-cells : (s : ModuleState) (c : Cell) → isCell c ≡ true → cells (defaulted s) c ≡ cond (actionStores setDefault c) (actionGives setDefault c) (cells s c)
+default-cells : (s : ModuleState) (c : Cell) → isCell c ≡ true → cells (stateAfter s SetDefault) c ≡ cond (actionStores setDefault c) (actionGives setDefault c) (cells s c)
 unfolding cells
-default-cells s (stored nv (setting x)) e = default-held (setting x) e refl
-default-cells s (stored nv (input n)) e = default-held (input n) e refl
-default-cells s (stored nv (slot i)) e = refl
-default-cells s (stored nv address) e = refl
-default-cells s (stored working (setting x)) e = default-held (setting x) refl refl
-default-cells s (stored working (input n)) e = default-held (input n) (and-eq-true-iff _ _ .0 e .0) refl
-default-cells s (stored working (slot i)) e = refl
-default-cells s (stored working address) e = refl
-default-cells s (single x) e = same-singles (defaulted s) s x refl
+default-cells s (copyOf nv (setting x)) e = default-held (setting x) e refl
+default-cells s (copyOf nv (input n)) e = default-held (input n) e refl
+default-cells s (copyOf nv (slot i)) e = refl
+default-cells s (copyOf nv address) e = refl
+default-cells s (copyOf working (setting x)) e = default-held (setting x) refl refl
+default-cells s (copyOf working (input n)) e = default-held (input n) (and-eq-true-iff _ _ .0 e .0) refl
+default-cells s (copyOf working (slot i)) e = refl
+default-cells s (copyOf working address) e = refl
+default-cells s (single x) e = same-singles (stateAfter s SetDefault) s x refl
 
 -- all slots: Erase All Addresses
-erased-cells : (s : ModuleState) (c : Cell) → isCell c ≡ true → cells (erased s) c ≡ cond (actionStores eraseAll c) (actionGives eraseAll c) (cells s c)
+erased-cells : (s : ModuleState) (c : Cell) → isCell c ≡ true → cells (stateAfter s EraseAll) c ≡ cond (actionStores eraseAll c) (actionGives eraseAll c) (cells s c)
 unfolding cells
-erased-cells s (stored nv (setting x)) e = refl
-erased-cells s (stored nv (input n)) e = refl
-erased-cells s (stored nv (slot i)) e = ap slotBytes (getD-replicate 40 i emptySlot noSlot (ltb-true i 40 e))
-erased-cells s (stored nv address) e = refl
-erased-cells s (stored working (setting x)) e = refl
-erased-cells s (stored working (input n)) e = refl
-erased-cells s (stored working (slot i)) e = refl
-erased-cells s (stored working address) e = refl
-erased-cells s (single x) e = same-singles (erased s) s x refl
+erased-cells s (copyOf nv (setting x)) e = refl
+erased-cells s (copyOf nv (input n)) e = refl
+erased-cells s (copyOf nv (slot i)) e = ap slotBytes (getD-replicate 40 i emptySlot noSlot (ltb-true i 40 e))
+erased-cells s (copyOf nv address) e = refl
+erased-cells s (copyOf working (setting x)) e = refl
+erased-cells s (copyOf working (input n)) e = refl
+erased-cells s (copyOf working (slot i)) e = refl
+erased-cells s (copyOf working address) e = refl
+erased-cells s (single x) e = same-singles (stateAfter s EraseAll) s x refl
 
 -- a power-up
 pub power-up-cells : (s : ModuleState) (c : Cell) → cells (stateAtPowerUp s) c ≡ cond (powerUpStores c) (powerUpGives (cells s) c) (cells s c)
 unfolding cells
-power-up-cells s (stored nv (setting x)) = refl
-power-up-cells s (stored nv (input n)) = refl
-power-up-cells s (stored nv (slot i)) = refl
-power-up-cells s (stored nv address) = refl
-power-up-cells s (stored working (setting x)) = refl
-power-up-cells s (stored working (input n)) = refl
-power-up-cells s (stored working (slot i)) = refl
-power-up-cells s (stored working address) = refl
+power-up-cells s (copyOf nv (setting x)) = refl
+power-up-cells s (copyOf nv (input n)) = refl
+power-up-cells s (copyOf nv (slot i)) = refl
+power-up-cells s (copyOf nv address) = refl
+power-up-cells s (copyOf working (setting x)) = refl
+power-up-cells s (copyOf working (input n)) = refl
+power-up-cells s (copyOf working (slot i)) = refl
+power-up-cells s (copyOf working address) = refl
 power-up-cells s (single name) = refl
 power-up-cells s (single firmware) = refl
 power-up-cells s (single serial) = refl
@@ -205,23 +210,29 @@ power-up-cells s (single hardwareLineMask) = refl
 power-up-cells s (single hardwareLatchMask) = refl
 
 -- ---- each accepted command
--- an item that is not the address names a setting, by its place
+-- an item that can be stored and is not the address names a setting, by its place
 record Placed (code : ℕ) : Type 0 where
   names : Setting
   key-is : keyOf code ≡ setting names
   place-is : place code ≡ settingNumber names
 
-placed : (code : ℕ) → eqb code item.address ≡ false → Placed code
-placed code f =
+placed : (code : ℕ) → isKey (keyOf code) ≡ true → eqb code item.address ≡ false → Placed code
+placed code there f =
     by-cases (eqb code item.lineMask) (λ e. at item.lineMask e (record { names = lineMask; key-is = refl; place-is = refl }))
     (λ g1. by-cases (eqb code item.latchMask) (λ e. at item.latchMask e (record { names = latchMask; key-is = refl; place-is = refl }))
     (λ g2. by-cases (eqb code item.txPower) (λ e. at item.txPower e (record { names = txPower; key-is = refl; place-is = refl }))
     (λ g3. by-cases (eqb code item.controlSource) (λ e. at item.controlSource e (record { names = controlSource; key-is = refl; place-is = refl }))
     (λ g4. by-cases (eqb code item.messageSelect) (λ e. at item.messageSelect e (record { names = messageSelect; key-is = refl; place-is = refl }))
-    (λ g5. record { names = interruptMask; key-is = rw (f, g1, g2, g3, g4, g5); place-is = rw (g1, g2, g3, g4, g5) })))))
+    (λ g5. by-cases (eqb code item.interruptMask) (λ e. at item.interruptMask e (record { names = interruptMask; key-is = refl; place-is = refl }))
+    (λ g6. absurd (true≢false (sym (rw (f, g1, g2, g3, g4, g5, g6) at there)))))))))
   where
     at : (k : ℕ) → eqb code k ≡ true → Placed k → Placed code
     at k e p = subst Placed (sym (eqb-true code k e)) p
+
+-- the address is no setting
+address-no-setting : (t : Settings) (code byte : ℕ) → eqb code item.address ≡ true → settingStored t code byte ≡ t
+unfolding settingStored
+address-no-setting t code byte e = rw (eqb-true code item.address e)
 
 -- what has a working copy is not the address' item
 not-address : (code : ℕ) → hasWorking (keyOf code) ≡ true → eqb code item.address ≡ false
@@ -229,48 +240,48 @@ not-address code w = by-cases (eqb code item.address) (λ e. cc) (λ e. e)
 
 module _ (s : ModuleState) (h : ArrayLengths s) where
   plain-written : (x : Item) (v : Value) → Checked (write (keyOf (x .code)) (valueIn x v))
-      → (c : Cell) → cells (plainWritten s (x .code) v) c ≡ cond (same c (stored working (keyOf (x .code)))) (valueIn x v) (cells s c)
+      → (c : Cell) → cells (stateAfter s (Write x v)) c ≡ cond (same c (copyOf working (keyOf (x .code)))) (valueIn x v) (cells s c)
   plain-written x v (k, w) c =
-      let p = placed (x .code) (not-address (x .code) w) in
+      let p = placed (x .code) (k .named) (not-address (x .code) w) in
       rw (value-is x v 1 (k .sized ∙ ap width (p .key-is)), p .key-is)
-      (written-cells s (settingStored (s .working) (x .code) (v .byte0)) (setting (p .names)) (v .byte0 ∷ [])
-      (setting-stored (s .working) (x .code) (v .byte0) (p .names) (p .place-is)) c)
+      (written-cells s (settingStored (s .working .settings) (x .code) (v .byte0)) (setting (p .names)) (v .byte0 ∷ [])
+      (setting-stored (s .working .settings) (x .code) (v .byte0) (p .names) (p .place-is)) c)
 
   row-written : (x : Item) (i : Index) (v : Value) → Checked (write (rowOf i) (valueIn x v))
-      → (c : Cell) → cells (rowWritten s i v) c ≡ cond (same c (stored working (rowOf i))) (valueIn x v) (cells s c)
+      → (c : Cell) → cells (stateAfter s (WriteIndexed x i v)) c ≡ cond (same c (copyOf working (rowOf i))) (valueIn x v) (cells s c)
   row-written x (SlotAt i) v (k, w) c = absurd (true≢false (sym w))
   row-written x (InputAt n) v (k, w) c =
       let b = input-bounds (n .0) (k .named) in
       rw (value-is x v 5 (k .sized))
-      (written-cells s (inputStored (s .working) (n .0) (inputFrom v)) (input (n .0)) (valueBytes v)
-      (input-stored (s .working) (n .0) v (h .working-inputs) (b .0) (b .1)) c)
+      (written-cells s (inputStored (s .working .settings) (n .0) (inputFrom v)) (input (n .0)) (valueBytes v)
+      (input-stored (s .working .settings) (n .0) v (h .working-inputs) (b .0) (b .1)) c)
 
   plain-programmed : (x : Item) (v : Value) → Checked (program (keyOf (x .code)) (valueIn x v))
-      → (c : Cell) → cells (plainProgrammed s (x .code) v) c ≡ cond (programStores (keyOf (x .code)) c) (valueIn x v) (cells s c)
+      → (c : Cell) → cells (stateAfter s (Program x v)) c ≡ cond (programStores (keyOf (x .code)) c) (valueIn x v) (cells s c)
   plain-programmed x v k c =
       by-cases (eqb (x .code) item.address)
       (λ e.
       let a : keyOf (x .code) ≡ address = rw (eqb-true (x .code) item.address e) in
-      rw (value-is x v 4 (k .sized ∙ ap width a), a, e) (address-cells s (addressFrom v) c))
+      rw (value-is x v 4 (k .sized ∙ ap width a), a, e, address-no-setting (s .working .settings) (x .code) (v .byte0) e) (address-cells s (addressFrom v) c))
       (λ e.
-      let p = placed (x .code) e in
+      let p = placed (x .code) (k .named) e in
       rw (value-is x v 1 (k .sized ∙ ap width (p .key-is)), p .key-is, e)
-      (programmed-cells s (settingStored (s .nv) (x .code) (v .byte0)) (settingStored (s .working) (x .code) (v .byte0))
+      (programmed-cells s (settingStored (s .stored .settings) (x .code) (v .byte0)) (settingStored (s .working .settings) (x .code) (v .byte0))
       (setting (p .names)) (v .byte0 ∷ []) refl
-      (setting-stored (s .nv) (x .code) (v .byte0) (p .names) (p .place-is))
-      (setting-stored (s .working) (x .code) (v .byte0) (p .names) (p .place-is)) c))
+      (setting-stored (s .stored .settings) (x .code) (v .byte0) (p .names) (p .place-is))
+      (setting-stored (s .working .settings) (x .code) (v .byte0) (p .names) (p .place-is)) c))
 
   row-programmed : (x : Item) (i : Index) (v : Value) → Checked (program (rowOf i) (valueIn x v))
-      → (c : Cell) → cells (rowProgrammed s i v) c ≡ cond (programStores (rowOf i) c) (valueIn x v) (cells s c)
+      → (c : Cell) → cells (stateAfter s (ProgramIndexed x i v)) c ≡ cond (programStores (rowOf i) c) (valueIn x v) (cells s c)
   row-programmed x (SlotAt i) v k c =
       rw (value-is x v 5 (k .sized)) (slot-cells s (i .0) (slotFrom v) (h .slot-count) (ltb-true (i .0) 40 (k .named)) c)
   row-programmed x (InputAt n) v k c =
       let b = input-bounds (n .0) (k .named) in
       rw (value-is x v 5 (k .sized))
-      (programmed-cells s (inputStored (s .nv) (n .0) (inputFrom v)) (inputStored (s .working) (n .0) (inputFrom v))
+      (programmed-cells s (inputStored (s .stored .settings) (n .0) (inputFrom v)) (inputStored (s .working .settings) (n .0) (inputFrom v))
       (input (n .0)) (valueBytes v) refl
-      (input-stored (s .nv) (n .0) v (h .nv-inputs) (b .0) (b .1))
-      (input-stored (s .working) (n .0) v (h .working-inputs) (b .0) (b .1)) c)
+      (input-stored (s .stored .settings) (n .0) v (h .stored-inputs) (b .0) (b .1))
+      (input-stored (s .working .settings) (n .0) v (h .working-inputs) (b .0) (b .1)) c)
 
   -- a source is only read from
   read-stores : (x : Source) (c : Cell) → actionStores (readFrom x) c ≡ false

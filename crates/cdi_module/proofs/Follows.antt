@@ -19,6 +19,7 @@ use Rattle.cdi_frame.specs.declared.Span.{Span}
 use Rattle.cdi_frame.specs.Frame.{wakeLimit, readFrame, payloadIn}
 use Rattle.cdi_frame.specs.Layout.{responseFrame}
 use Rattle.cdi_item.specs.declared.Item.{Item}
+use Rattle.cdi_item.specs.declared.Value.{Value}
 use Rattle.cdi_item.specs.Items as item
 use Rattle.cdi_item.proofs.Consistent.{found}
 use Rattle.cdi_item.proofs.Numbers.{no-input}
@@ -31,18 +32,19 @@ use Rattle.cdi_command.proofs.Accepted.{accepted-well-formed, accepted-payload}
 use Rattle.cdi_state.specs.declared.Slot.{Slot}
 use Rattle.cdi_state.specs.declared.AnalogInput.{AnalogInput}
 use Rattle.cdi_state.specs.declared.Settings.{Settings}
+use Rattle.cdi_state.specs.declared.Stored.{Stored}
 use Rattle.cdi_state.specs.declared.ModuleState.{ModuleState}
 use Rattle.cdi_state.specs.State.{inputBytes, slotBytes, noSlot, noInput, ArrayLengths, inputAt}
-use Rattle.cdi_store.specs.Store.{withSettings, withAddress, addressFrom, settingStored, inputFrom, slotFrom, stateAfter, stateAtPowerUp}
-use Rattle.cdi_model.specs.Cells.{nv, working, Setting, lineMask, latchMask, txPower, controlSource, messageSelect, interruptMask, setting, input, slot, address, Single, name, firmware, serial, lines, rssi, ladj, events, flags, hardwarePower, hardwareLineMask, hardwareLatchMask, Cell, stored, single, isKey, isCell}
+use Rattle.cdi_store.specs.Store.{settingStored, inputFrom, slotFrom, plainProgrammed, stateAfter, stateAtPowerUp}
+use Rattle.cdi_value.specs.Value.{valueRead}
+use Rattle.cdi_model.specs.Cells.{nv, working, Setting, lineMask, latchMask, txPower, controlSource, messageSelect, interruptMask, setting, input, slot, address, Single, name, firmware, serial, lines, rssi, ladj, events, flags, hardwarePower, hardwareLineMask, hardwareLatchMask, Cell, copyOf, single, isKey, isCell}
 use Rattle.cdi_model.specs.Step.{Step, powerUp, command}
 use Rattle.cdi_model.specs.Action.{Source, held, one, status, readFrom, readNvFrom, sourceOf, actionOf}
 use Rattle.cdi_model.specs.Table.{Decision, refuse, execute, executePowerUp, stores}
-use Rattle.cdi_model.specs.Model as theirs
+use Rattle.cdi_model.specs.Model as Model
 use Rattle.cdi_model.specs.Model.{gives, model}
 use Rattle.cdi_model.proofs.Checked.{accepted-checked}
-use Rattle.cdi_module.specs.Value.{valueRead}
-use Rattle.cdi_module.specs.Module as own
+use Rattle.cdi_module.specs.Module as Module
 use Rattle.cdi_module.specs.Machine.{settingHeld, singleHeld, cells, machine}
 use Rattle.cdi_module.proofs.Views.{inputs-length}
 use Rattle.cdi_module.proofs.Shown.{value-agrees}
@@ -56,32 +58,32 @@ both P true p q = p
 both P false p q = q
 
 -- what holds of equal refusals, of a command and its action, and of power-ups, holds of the two decisions on any step
-module _ (P : own.Decision → Decision → Type 0)
-    (on-refuse : (n : ℕ) → P (own.refuse n) (refuse n))
-    (on-execute : (payload : List ℕ) (c : Command) → validatePayload payload ≡ accepted c → P (own.execute c) (execute payload (actionOf c)))
-    (on-power-up : P own.executePowerUp executePowerUp)
+module _ (P : Module.Decision → Decision → Type 0)
+    (on-refuse : (n : ℕ) → P (Module.refuse n) (refuse n))
+    (on-execute : (payload : List ℕ) (c : Command) → validatePayload payload ≡ accepted c → P (Module.execute c) (execute payload (actionOf c)))
+    (on-power-up : P Module.executePowerUp executePowerUp)
   where
-    by-payload : (payload : List ℕ) (r : Result Command) → validatePayload payload ≡ r → P (own.decided r) (theirs.decideCommand payload r)
+    by-payload : (payload : List ℕ) (r : Result Command) → validatePayload payload ≡ r → P (Module.decided r) (Model.decideCommand payload r)
     by-payload payload (accepted c) e = on-execute payload c e
     by-payload payload (refused n) e = on-refuse n
 
     by-frame : (block : List ℕ) (f : Result Span)
-        → P (own.decided (andThen f (λ span. validatePayload (payloadIn block span)))) (theirs.decideFrame block f)
-    unfolding theirs.decidePayload
+        → P (Module.decided (andThen f (λ span. validatePayload (payloadIn block span)))) (Model.decideFrame block f)
+    unfolding Model.decidePayload
     by-frame block (accepted span) = by-payload (payloadIn block span) (validatePayload (payloadIn block span)) refl
     by-frame block (refused n) = on-refuse n
 
-    decisions : (s : ModuleState) → ArrayLengths s → (x : Step) → P (own.decide s x) (theirs.decide (cells s) x)
-    unfolding own.decide own.commandIn theirs.decide theirs.decideBlock
-    decisions s h powerUp = rw (validity-agrees s h) (both P (theirs.isValid (cells s)) on-power-up (on-refuse _))
-    decisions s h (command block response) =
+    decisions : (s : ModuleState) → ArrayLengths s → (x : Step) → P (Module.decide s x) (Model.decide (cells s) x)
+    unfolding Module.decide Module.commandIn Model.decide Model.decideBlock
+    decisions s h powerUp = rw (validity-agrees s h) (both P (Model.isValid (cells s)) on-power-up (on-refuse _))
+    decisions s h (command r) =
         rw (validity-agrees s h)
-        (both P (ltb (length response) 22) (on-refuse _)
-        (both P (theirs.isValid (cells s)) (by-frame block (readFrame wakeLimit block)) (on-refuse _)))
+        (both P (ltb (length (r .response)) 22) (on-refuse _)
+        (both P (Model.isValid (cells s)) (by-frame (r .block) (readFrame wakeLimit (r .block))) (on-refuse _)))
 
 -- ---- results
-read-response : (x : Source) (payload v : List ℕ) → theirs.responsePayload payload (readFrom x) v ≡ (0xC1 ∷ drop 1 payload ++ v)
-unfolding theirs.responsePayload
+read-response : (x : Source) (payload v : List ℕ) → Model.responsePayload payload (readFrom x) v ≡ (0xC1 ∷ drop 1 payload ++ v)
+unfolding Model.responsePayload
 read-response (held k) payload v = refl
 read-response (one x) payload v = refl
 read-response status payload v = refl
@@ -99,10 +101,10 @@ unfolding no-read-nv
 status-nv x p = implied (item.permitted x item.N) _ (found no-read-nv every-no-read-nv (x .code) x (p .listed) .0) (p .permits)
 
 read-nv-response : (code : ℕ) → not (eqb code item.status) ≡ true → (payload v : List ℕ)
-    → theirs.responsePayload payload (readNvFrom (sourceOf code)) v ≡ (0xC2 ∷ drop 1 payload ++ v)
-unfolding theirs.responsePayload
+    → Model.responsePayload payload (readNvFrom (sourceOf code)) v ≡ (0xC2 ∷ drop 1 payload ++ v)
+unfolding Model.responsePayload
 read-nv-response code e payload v =
-    let P : Source → Type 0 = λ x. theirs.responsePayload payload (readNvFrom x) v ≡ (0xC2 ∷ drop 1 payload ++ v) in
+    let P : Source → Type 0 = λ x. Model.responsePayload payload (readNvFrom x) v ≡ (0xC2 ∷ drop 1 payload ++ v) in
     choice P (eqb code item.name) (λ _. refl)
     (λ _. choice P (eqb code item.firmware) (λ _. refl)
     (λ _. choice P (eqb code item.serial) (λ _. refl)
@@ -113,8 +115,8 @@ read-nv-response code e payload v =
     (λ _. choice P (eqb code item.events) (λ _. refl) (λ _. refl))))))))
 
 -- the payload of the response to a command's payload is that of its action
-payload-agrees : (c : Command) → WellFormed c → (v : List ℕ) → responsePayload (commandPayload c) v ≡ theirs.responsePayload (commandPayload c) (actionOf c) v
-unfolding actionOf theirs.responsePayload
+payload-agrees : (c : Command) → WellFormed c → (v : List ℕ) → responsePayload (commandPayload c) v ≡ Model.responsePayload (commandPayload c) (actionOf c) v
+unfolding actionOf Model.responsePayload
 payload-agrees (Read x) p v = sym (read-response (sourceOf (x .code)) (commandPayload (Read x)) v)
 payload-agrees (ReadIndexed x i) p v = refl
 payload-agrees (ReadNv x) p v = sym (read-nv-response (x .code) (status-nv x p) (commandPayload (ReadNv x)) v)
@@ -127,69 +129,77 @@ payload-agrees SetDefault p v = refl
 payload-agrees EraseAll p v = refl
 
 response-agrees : (s : ModuleState) (payload : List ℕ) (c : Command) → validatePayload payload ≡ accepted c
-    → own.responseTo s c ≡ responseFrame (theirs.responsePayload payload (actionOf c) (theirs.actionValue (cells s) (actionOf c)))
+    → Module.responseTo s c ≡ responseFrame (Model.responsePayload payload (actionOf c) (Model.actionValue (cells s) (actionOf c)))
 response-agrees s payload c e =
     ap responseFrame
     (payload-agrees c (accepted-well-formed payload c e) (valueRead s c)
-    ∙ ap₂ (λ (p v : List ℕ). theirs.responsePayload p (actionOf c) v) (accepted-payload payload c e) (value-agrees s c))
+    ∙ ap₂ (λ (p v : List ℕ). Model.responsePayload p (actionOf c) v) (accepted-payload payload c e) (value-agrees s c (accepted-well-formed payload c e)))
 
-result-agrees : (s : ModuleState) (x : Step) → ArrayLengths s → own.resultOf s x ≡ model .result (cells s) x
-unfolding own.resultOf theirs.resultOf theirs.valueRead
+result-agrees : (s : ModuleState) (x : Step) → ArrayLengths s → Module.resultOf s x ≡ model .result (cells s) x
+unfolding Module.resultOf Model.resultOf Model.valueRead
 result-agrees s powerUp h =
-    decisions (λ d e. own.resultBy s powerUp d ≡ theirs.resultOf powerUp e (theirs.valueRead (cells s) e)) (λ n. refl) (λ p c e. refl) refl s h powerUp
-result-agrees s (command block response) h =
-    decisions (λ d e. own.blockResult s response d ≡ theirs.resultOf (command block response) e (theirs.valueRead (cells s) e))
-    (λ n. refl) (λ p c e. ap (theirs.respond response) (response-agrees s p c e)) refl s h (command block response)
+    decisions (λ d e. Module.resultBy s powerUp d ≡ Model.resultOf powerUp e (Model.valueRead (cells s) e)) (λ n. refl) (λ p c e. refl) refl s h powerUp
+result-agrees s (command r) h =
+    decisions (λ d e. Module.blockResult s (r .response) d ≡ Model.resultOf (command r) e (Model.valueRead (cells s) e))
+    (λ n. refl) (λ p c e. ap (Model.respond (r .response)) (response-agrees s p c e)) refl s h (command r)
 
 -- ---- array lengths
-same-lengths : (s t : ModuleState) → length (t .nv .«analog_inputs») ≡ length (s .nv .«analog_inputs»)
-    → length (t .working .«analog_inputs») ≡ length (s .working .«analog_inputs») → length (t .slots) ≡ length (s .slots)
+same-lengths : (s t : ModuleState) → length (t .stored .settings .«analog_inputs») ≡ length (s .stored .settings .«analog_inputs»)
+    → length (t .working .settings .«analog_inputs») ≡ length (s .working .settings .«analog_inputs») → length (t .stored .slots) ≡ length (s .stored .slots)
     → ArrayLengths s → ArrayLengths t
-same-lengths s t n w l h = record { nv-inputs = n ∙ h .nv-inputs; working-inputs = w ∙ h .working-inputs; slot-count = l ∙ h .slot-count }
+same-lengths s t n w l h = record { stored-inputs = n ∙ h .stored-inputs; working-inputs = w ∙ h .working-inputs; slot-count = l ∙ h .slot-count }
 
 setting-inputs : (t : Settings) (code byte : ℕ) → length (settingStored t code byte .«analog_inputs») ≡ length (t .«analog_inputs»)
 unfolding settingStored
 setting-inputs t code byte = refl
 
+-- a Program of an item without an index leaves the arrays' lengths in the stored part
+plain-lengths : (t : Stored) (code : ℕ) (v : Value) →
+    let u = plainProgrammed t code v in
+    (length (u .settings .«analog_inputs») ≡ length (t .settings .«analog_inputs»)) × (length (u .slots) ≡ length (t .slots))
+plain-lengths t code v =
+    choice (λ (u : Stored). (length (u .settings .«analog_inputs») ≡ length (t .settings .«analog_inputs»)) × (length (u .slots) ≡ length (t .slots)))
+    (eqb code item.address) (λ _. (refl, refl)) (λ _. (setting-inputs (t .settings) code (v .byte0), refl))
+
 command-lengths : (s : ModuleState) (c : Command) → ArrayLengths s → ArrayLengths (stateAfter s c)
-command-lengths s (Read x) h = h
-command-lengths s (ReadIndexed x i) h = h
-command-lengths s (ReadNv x) h = h
-command-lengths s (ReadNvIndexed x i) h = h
-command-lengths s (Write x v) h = same-lengths s (stateAfter s (Write x v)) refl (setting-inputs (s .working) (x .code) (v .byte0)) refl h
-command-lengths s (WriteIndexed x (SlotAt i) v) h = h
+command-lengths s (Read x) h = same-lengths s (stateAfter s (Read x)) refl refl refl h
+command-lengths s (ReadIndexed x i) h = same-lengths s (stateAfter s (ReadIndexed x i)) refl refl refl h
+command-lengths s (ReadNv x) h = same-lengths s (stateAfter s (ReadNv x)) refl refl refl h
+command-lengths s (ReadNvIndexed x i) h = same-lengths s (stateAfter s (ReadNvIndexed x i)) refl refl refl h
+command-lengths s (Write x v) h = same-lengths s (stateAfter s (Write x v)) refl (setting-inputs (s .working .settings) (x .code) (v .byte0)) refl h
+command-lengths s (WriteIndexed x (SlotAt i) v) h = same-lengths s (stateAfter s (WriteIndexed x (SlotAt i) v)) refl refl refl h
 command-lengths s (WriteIndexed x (InputAt n) v) h =
-    same-lengths s (stateAfter s (WriteIndexed x (InputAt n) v)) refl (inputs-length (s .working) (n .0) (inputFrom v)) refl h
+    same-lengths s (stateAfter s (WriteIndexed x (InputAt n) v)) refl (inputs-length (s .working .settings) (n .0) (inputFrom v)) refl h
 command-lengths s (Program x v) h =
-    choice ArrayLengths (eqb (x .code) item.address) (λ _. same-lengths s (withAddress s (addressFrom v)) refl refl refl h)
-    (λ _. same-lengths s (withSettings s (settingStored (s .nv) (x .code) (v .byte0)) (settingStored (s .working) (x .code) (v .byte0)))
-    (setting-inputs (s .nv) (x .code) (v .byte0)) (setting-inputs (s .working) (x .code) (v .byte0)) refl h)
+    let p = plain-lengths (s .stored) (x .code) v in
+    same-lengths s (stateAfter s (Program x v)) (p .0) (setting-inputs (s .working .settings) (x .code) (v .byte0)) (p .1) h
 command-lengths s (ProgramIndexed x (SlotAt i) v) h =
-    same-lengths s (stateAfter s (ProgramIndexed x (SlotAt i) v)) refl refl (length-set (s .slots) (i .0) (slotFrom v)) h
+    same-lengths s (stateAfter s (ProgramIndexed x (SlotAt i) v)) refl refl (length-set (s .stored .slots) (i .0) (slotFrom v)) h
 command-lengths s (ProgramIndexed x (InputAt n) v) h =
-    same-lengths s (stateAfter s (ProgramIndexed x (InputAt n) v)) (inputs-length (s .nv) (n .0) (inputFrom v)) (inputs-length (s .working) (n .0) (inputFrom v)) refl h
-command-lengths s SetDefault h = record { nv-inputs = refl; working-inputs = refl; slot-count = h .slot-count }
-command-lengths s EraseAll h = record { nv-inputs = h .nv-inputs; working-inputs = h .working-inputs; slot-count = refl }
+    same-lengths s (stateAfter s (ProgramIndexed x (InputAt n) v)) (inputs-length (s .stored .settings) (n .0) (inputFrom v))
+    (inputs-length (s .working .settings) (n .0) (inputFrom v)) refl h
+command-lengths s SetDefault h = record { stored-inputs = refl; working-inputs = refl; slot-count = h .slot-count }
+command-lengths s EraseAll h = record { stored-inputs = h .stored-inputs; working-inputs = h .working-inputs; slot-count = refl }
 
 power-up-lengths : (s : ModuleState) → ArrayLengths s → ArrayLengths (stateAtPowerUp s)
-power-up-lengths s h = record { nv-inputs = h .nv-inputs; working-inputs = h .nv-inputs; slot-count = h .slot-count }
+power-up-lengths s h = record { stored-inputs = h .stored-inputs; working-inputs = h .stored-inputs; slot-count = h .slot-count }
 
-lengths-kept : (s : ModuleState) (x : Step) → ArrayLengths s → ArrayLengths (own.step s x)
-unfolding own.step
+lengths-kept : (s : ModuleState) (x : Step) → ArrayLengths s → ArrayLengths (Module.step s x)
+unfolding Module.step
 lengths-kept s x h =
-    decisions (λ d e. ArrayLengths (own.stateBy s d)) (λ n. h) (λ p c e. command-lengths s c h) (power-up-lengths s h) s h x
+    decisions (λ d e. ArrayLengths (Module.stateBy s d)) (λ n. h) (λ p c e. command-lengths s c h) (power-up-lengths s h) s h x
 
 -- ---- cells
 -- a name past the end of an array names no cell, and holds the same in every state
 outside : Cell → List ℕ
-outside (stored nv (setting x)) = []
-outside (stored nv (input n)) = inputBytes noInput
-outside (stored nv (slot i)) = slotBytes noSlot
-outside (stored nv address) = []
-outside (stored working (setting x)) = []
-outside (stored working (input n)) = inputBytes noInput
-outside (stored working (slot i)) = []
-outside (stored working address) = []
+outside (copyOf nv (setting x)) = []
+outside (copyOf nv (input n)) = inputBytes noInput
+outside (copyOf nv (slot i)) = slotBytes noSlot
+outside (copyOf nv address) = []
+outside (copyOf working (setting x)) = []
+outside (copyOf working (input n)) = inputBytes noInput
+outside (copyOf working (slot i)) = []
+outside (copyOf working address) = []
 outside (single x) = []
 
 input-outside : (t : Settings) (n : ℕ) → length (t .«analog_inputs») ≡ 2 → isKey (input n) ≡ false → inputAt t n ≡ noInput
@@ -202,15 +212,15 @@ not-both false e = refl
 
 held-outside : (s : ModuleState) → ArrayLengths s → (c : Cell) → isCell c ≡ false → cells s c ≡ outside c
 unfolding cells outside
-held-outside s h (stored nv (setting x)) e = absurd (true≢false e)
-held-outside s h (stored nv (input n)) e = ap inputBytes (input-outside (s .nv) n (h .nv-inputs) e)
-held-outside s h (stored nv (slot i)) e =
-    ap slotBytes (List·getD-eq-default (s .slots) noSlot {n = i} (omega (arith, ltb-false i 40 e, h .slot-count)))
-held-outside s h (stored nv address) e = absurd (true≢false e)
-held-outside s h (stored working (setting x)) e = absurd (true≢false e)
-held-outside s h (stored working (input n)) e = ap inputBytes (input-outside (s .working) n (h .working-inputs) (not-both (isKey (input n)) e))
-held-outside s h (stored working (slot i)) e = refl
-held-outside s h (stored working address) e = refl
+held-outside s h (copyOf nv (setting x)) e = absurd (true≢false e)
+held-outside s h (copyOf nv (input n)) e = ap inputBytes (input-outside (s .stored .settings) n (h .stored-inputs) e)
+held-outside s h (copyOf nv (slot i)) e =
+    ap slotBytes (List·getD-eq-default (s .stored .slots) noSlot {n = i} (omega (arith, ltb-false i 40 e, h .slot-count)))
+held-outside s h (copyOf nv address) e = absurd (true≢false e)
+held-outside s h (copyOf working (setting x)) e = absurd (true≢false e)
+held-outside s h (copyOf working (input n)) e = ap inputBytes (input-outside (s .working .settings) n (h .working-inputs) (not-both (isKey (input n)) e))
+held-outside s h (copyOf working (slot i)) e = refl
+held-outside s h (copyOf working address) e = refl
 held-outside s h (single x) e = absurd (true≢false e)
 
 -- what holds of the cells that there are holds of every name
@@ -219,10 +229,10 @@ everywhere : (s t : ModuleState) → ArrayLengths s → ArrayLengths t → (c : 
 everywhere s t h g c b v there =
     by-cases (isCell c) (λ e. rw e (there e)) (λ e. rw e (held-outside t g c e ∙ sym (held-outside s h c e)))
 
-cells-agree : (s : ModuleState) (x : Step) → ArrayLengths s → (c : Cell) → cells (own.step s x) c ≡ next model (cells s) x c
-unfolding own.step stores gives
+cells-agree : (s : ModuleState) (x : Step) → ArrayLengths s → (c : Cell) → cells (Module.step s x) c ≡ next model (cells s) x c
+unfolding Module.step stores gives
 cells-agree s x h c =
-    decisions (λ d e. cells (own.stateBy s d) c ≡ cond (stores e c) (gives (cells s) e c) (cells s c)) (λ n. refl)
+    decisions (λ d e. cells (Module.stateBy s d) c ≡ cond (stores e c) (gives (cells s) e c) (cells s c)) (λ n. refl)
     (λ p d e. everywhere s (stateAfter s d) h (command-lengths s d h) c _ _ (command-cells s h d (accepted-checked p d e) c))
     (everywhere s (stateAtPowerUp s) h (power-up-lengths s h) c _ _ (λ _. power-up-cells s c)) s h x
 
@@ -271,26 +281,30 @@ slot-whole a b e =
 cells-are-all : (s t : ModuleState) → ArrayLengths s → ArrayLengths t → ((c : Cell) → cells s c ≡ cells t c) → s ≡ t
 unfolding cells
 cells-are-all s t h g e =
-    let n = settings-whole (s .nv) (t .nv) (h .nv-inputs ∙ sym (g .nv-inputs)) (λ x. e (stored nv (setting x))) (λ i. e (stored nv (input i))) in
+    let n = settings-whole (s .stored .settings) (t .stored .settings) (h .stored-inputs ∙ sym (g .stored-inputs)) (λ x. e (copyOf nv (setting x))) (λ i. e (copyOf nv (input i))) in
     let w =
-    settings-whole (s .working) (t .working) (h .working-inputs ∙ sym (g .working-inputs))
-    (λ x. e (stored working (setting x))) (λ i. e (stored working (input i))) in
-    let l : s .slots ≡ t .slots = ext-getD noSlot (s .slots) (t .slots) (h .slot-count ∙ sym (g .slot-count)) (λ i _. slot-whole _ _ (e (stored nv (slot i)))) in
+    settings-whole (s .working .settings) (t .working .settings) (h .working-inputs ∙ sym (g .working-inputs))
+    (λ x. e (copyOf working (setting x))) (λ i. e (copyOf working (input i))) in
+    let l : s .stored .slots ≡ t .stored .slots = ext-getD noSlot (s .stored .slots) (t .stored .slots) (h .slot-count ∙ sym (g .slot-count)) (λ i _. slot-whole _ _ (e (copyOf nv (slot i)))) in
     let byte : (x : Single) → getD (singleHeld s x) 0 0 ≡ getD (singleHeld t x) 0 0 = λ x. ap (λ (v : List ℕ). getD v 0 0) (e (single x)) in
     λ i. record {
-      name = e (single name) i;
-      firmware = e (single firmware) i;
-      serial = e (single serial) i;
-      address = e (stored nv address) i;
-      nv = n i;
-      working = w i;
-      slots = l i;
-      lines = e (single lines) i;
-      rssi = e (single rssi) i;
-      ladj = byte ladj i;
-      events = byte events i;
-      flags = byte flags i;
-      hardware = record { power = byte hardwarePower i; «line_mask» = byte hardwareLineMask i; «latch_mask» = byte hardwareLatchMask i };
+      stored = record {
+        name = e (single name) i;
+        firmware = e (single firmware) i;
+        serial = e (single serial) i;
+        address = e (copyOf nv address) i;
+        settings = n i;
+        slots = l i;
+      };
+      working = record { settings = w i };
+      live = record {
+        lines = e (single lines) i;
+        rssi = e (single rssi) i;
+        ladj = byte ladj i;
+        events = byte events i;
+        flags = byte flags i;
+        hardware = record { power = byte hardwarePower i; «line_mask» = byte hardwareLineMask i; «latch_mask» = byte hardwareLatchMask i };
+      };
     }
 
 pub follows : Follows model machine

@@ -1,6 +1,4 @@
-pub mod Values
 pub mod Responses
-pub mod Lengths
 pub mod Views
 pub mod Shown
 pub mod Validity

@@ -14,8 +14,7 @@ use Rattle.cdi_command.specs.Command.{validatePayload}
 use Rattle.cdi_command.specs.Payload.{commandPayload, responsePayload, responseBufferMin}
 use Rattle.cdi_command.proofs.Accepted.{payload-bounds, accepted-payload}
 use Rattle.cdi_value.specs.declared.Shown.{Shown}
-use Rattle.cdi_value.specs.Value.{valueMax, shownBytes}
-use Rattle.cdi_module.specs.Value.{valueRoom}
+use Rattle.cdi_value.specs.Value.{valueMax, valueRoom, shownBytes}
 
 -- there is a code, n bytes of value are no more than the longest has, and the response fits
 abbrev pub Fits : (payload v : List ℕ) → ℕ → Type 0

@@ -5,6 +5,7 @@ use mathlib.Core.Bool.{false, cond}
 use lib.Dec.{ltb}
 use lib.ListN.{length}
 use Rattle.logic.proofs.Choice.{by-cases}
+use Rattle.sequence.specs.Model.{accepts}
 use Rattle.sequence.proofs.Theorem.{sequence-claims}
 use Rattle.refusal.specs.Refusal.{invalid, responseBufferShort}
 use Rattle.cdi_command.specs.Payload.{responseBufferMin}
@@ -12,8 +13,10 @@ use Rattle.cdi_state.specs.declared.ModuleState.{ModuleState}
 use Rattle.cdi_state.specs.State.{ArrayLengths}
 use Rattle.cdi_valid.specs.Valid.{isValid}
 use Rattle.cdi_model.specs.Step.{Step, powerUp, command, StepResult, poweredUp, responded}
+use Rattle.cdi_model.specs.Cells.{Cell}
+use Rattle.cdi_model.specs.Table.{reads}
 use Rattle.cdi_model.specs.Model.{model, isValid as isValidCells}
-use Rattle.cdi_model.proofs.Lawful.{lawful, validity-kept as cells-validity-kept}
+use Rattle.cdi_model.proofs.Lawful.{lawful, refused-reads-none as cells-refused-read-none, validity-kept as cells-validity-kept}
 use Rattle.cdi_module.specs.Module.{decide, step, resultOf}
 use Rattle.cdi_module.specs.Machine.{cells, machine}
 use Rattle.cdi_module.specs.Theorem.{SequenceTheorem}
@@ -22,6 +25,10 @@ use Rattle.cdi_module.proofs.Follows.{follows}
 
 pub sequence-theorem : SequenceTheorem
 sequence-theorem s h xs = sequence-claims model machine lawful follows s h xs
+
+-- a step that is not accepted reads no cell either, whatever refuses it; that it stores in none and leaves the state is `Claims`' to say
+pub refused-reads-none : (s : ModuleState) (x : Step) → accepts model (cells s) x ≡ false → (c : Cell) → reads (model .decide (cells s) x) c ≡ false
+refused-reads-none s x e c = cells-refused-read-none (cells s) x e c
 
 -- no step changes whether a state is valid
 pub validity-kept : (s : ModuleState) (x : Step) → ArrayLengths s → isValid (step s x) ≡ isValid s
@@ -34,10 +41,10 @@ validity-kept s x h =
 -- on an invalid state every step is refused: a power-up with 2, a block with 1 or 2
 abbrev refusedResult : Step → StepResult
 refusedResult powerUp = poweredUp invalid
-refusedResult (command block response) = responded (cond (ltb (length response) responseBufferMin) responseBufferShort invalid) 0 response
+refusedResult (command r) = responded (cond (ltb (length (r .response)) responseBufferMin) responseBufferShort invalid) 0 (r .response)
 
 pub invalid-refused : (s : ModuleState) (x : Step) → isValid s ≡ false → (step s x ≡ s) × (resultOf s x ≡ refusedResult x)
 unfolding step resultOf decide
 invalid-refused s powerUp e = (rw e, rw e)
-invalid-refused s (command block response) e =
-    by-cases (ltb (length response) responseBufferMin) (λ t. (rw t, rw t)) (λ t. (rw (t, e), rw (t, e)))
+invalid-refused s (command r) e =
+    by-cases (ltb (length (r .response)) responseBufferMin) (λ t. (rw t, rw t)) (λ t. (rw (t, e), rw (t, e)))

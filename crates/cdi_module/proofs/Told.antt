@@ -14,10 +14,10 @@ use Rattle.cdi_command.proofs.Accepted.{accepted-payload}
 use Rattle.cdi_state.specs.declared.ModuleState.{ModuleState}
 use Rattle.cdi_valid.specs.Valid.{isValid}
 use Rattle.cdi_store.specs.Store.{stateFor}
-use Rattle.cdi_store.proofs.Tags.{nothing-stored as kept}
-use Rattle.cdi_model.specs.Step.{command, responded}
+use Rattle.cdi_store.proofs.Kept.{nothing-stored as kept}
+use Rattle.cdi_value.specs.Value.{valueRead}
+use Rattle.cdi_model.specs.Step.{Request, command, responded}
 use Rattle.cdi_module.specs.declared.Decided.{Decided}
-use Rattle.cdi_module.specs.Value.{valueRead}
 use Rattle.cdi_module.specs.Module.{Decision, refuse, execute, executePowerUp, decided, decideIf, decide, stateBy, storesBy, refusedAs, Responds, Writes, step, blockResult, resultOf}
 
 -- a refusal leaves the buffer
@@ -44,25 +44,25 @@ nothing-stored s (execute c) e = kept s c e
 nothing-stored s executePowerUp e = absurd (true≢false e)
 
 -- what is told of a block, once what is known of the state is true, by the step that it is
-module _ (s : ModuleState) (block before after : List ℕ) (known : Bool) (r : Decided) (so : known ≡ true → isValid s ≡ true)
-    (told : Responds s (decideIf (known || isValid s) block before) before after r)
+module _ (s : ModuleState) (q : Request) (after : List ℕ) (known : Bool) (r : Decided) (so : known ≡ true → isValid s ≡ true)
+    (told : Responds s (decideIf (known || isValid s) q) (q .response) after r)
   where
     known-valid : known || isValid s ≡ isValid s
     known-valid = by-cases known (λ t. rw (t, so t)) (λ f. rw f)
 
-    same-decision : decideIf (known || isValid s) block before ≡ decide s (command block before)
+    same-decision : decideIf (known || isValid s) q ≡ decide s (command q)
     unfolding decide
-    same-decision = ap (λ (valid : Bool). decideIf valid block before) known-valid
+    same-decision = ap (λ (valid : Bool). decideIf valid q) known-valid
 
     -- the state after it
-    pub told-step : cond (r .stores) (stateFor s (validatedResult (r .validated))) s ≡ step s (command block before)
+    pub told-step : cond (r .stores) (stateFor s (validatedResult (r .validated))) s ≡ step s (command q)
     unfolding step
     told-step =
         by-cases (r .stores)
         (λ t. rw t (stored-by s (validatedResult (r .validated)) ∙ ap (stateBy s) (told .decides ∙ same-decision)))
-        (λ f. rw f (sym (nothing-stored s (decide s (command block before)) (sym (told .tells ∙ ap storesBy same-decision) ∙ f))))
+        (λ f. rw f (sym (nothing-stored s (decide s (command q)) (sym (told .tells ∙ ap storesBy same-decision) ∙ f))))
 
     -- and its result
-    pub told-result : responded (r .outcome .refusal) (r .outcome .length) after ≡ resultOf s (command block before)
+    pub told-result : responded (r .outcome .refusal) (r .outcome .length) after ≡ resultOf s (command q)
     unfolding resultOf
-    told-result = told .results ∙ ap (blockResult s before) same-decision
+    told-result = told .results ∙ ap (blockResult s (q .response)) same-decision

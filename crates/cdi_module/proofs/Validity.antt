@@ -37,13 +37,13 @@ slots-agree [] = refl
 slots-agree (x ∷ l) =
     ap₂ _&&_ (slot-agrees x) (slots-agree l) ∙ sym (all-from-first (length l) (λ i. acceptedSlot (slotBytes (getD (x ∷ l) i noSlot))))
 
-settings-agree : (s : ModuleState) → (validSettings (s .nv) ≡ validCopy (cells s) nv) × (validSettings (s .working) ≡ validCopy (cells s) working)
+settings-agree : (s : ModuleState) → (validSettings (s .stored .settings) ≡ validCopy (cells s) nv) × (validSettings (s .working .settings) ≡ validCopy (cells s) working)
 unfolding cells acceptedValue
 settings-agree s = (refl, refl)
 
 pub validity-agrees : (s : ModuleState) → ArrayLengths s → isValid s ≡ isValidCells (cells s)
 unfolding isValid isValidCells cells
 validity-agrees s h =
-    let slots : validSlots (s .slots) ≡ allBelow 40 (λ i. acceptedSlot (slotBytes (getD (s .slots) i noSlot))) =
-    subst (λ (n : ℕ). validSlots (s .slots) ≡ allBelow n (λ i. acceptedSlot (slotBytes (getD (s .slots) i noSlot)))) (h .slot-count) (slots-agree (s .slots)) in
+    let slots : validSlots (s .stored .slots) ≡ allBelow 40 (λ i. acceptedSlot (slotBytes (getD (s .stored .slots) i noSlot))) =
+    subst (λ (n : ℕ). validSlots (s .stored .slots) ≡ allBelow n (λ i. acceptedSlot (slotBytes (getD (s .stored .slots) i noSlot)))) (h .slot-count) (slots-agree (s .stored .slots)) in
     rw (settings-agree s .0, settings-agree s .1, slots)

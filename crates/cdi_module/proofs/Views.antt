@@ -84,8 +84,8 @@ inputs-length t (suc i) a = length-set (t .«analog_inputs») i a
 -- ---- the cells that no command stores in, as a list: what leaves their fields leaves them
 abbrev pub singles : ModuleState → List (List ℕ)
 singles s =
-    s .name ∷ s .firmware ∷ s .serial ∷ s .lines ∷ s .rssi ∷ (s .ladj ∷ []) ∷ (s .events ∷ []) ∷ (s .flags ∷ []) ∷
-    (s .hardware .power ∷ []) ∷ (s .hardware .«line_mask» ∷ []) ∷ (s .hardware .«latch_mask» ∷ []) ∷ []
+    s .stored .name ∷ s .stored .firmware ∷ s .stored .serial ∷ s .live .lines ∷ s .live .rssi ∷ (s .live .ladj ∷ []) ∷ (s .live .events ∷ []) ∷ (s .live .flags ∷ []) ∷
+    (s .live .hardware .power ∷ []) ∷ (s .live .hardware .«line_mask» ∷ []) ∷ (s .live .hardware .«latch_mask» ∷ []) ∷ []
 
 single-at : (s : ModuleState) (x : Single) → singleHeld s x ≡ getD (singles s) (singleNumber x) []
 single-at s name = refl

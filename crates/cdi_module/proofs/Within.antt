@@ -7,7 +7,7 @@ use native.Mathlib.Omega.{arith}
 use lib.ListN.{length, drop, length-append}
 use Rattle.logic.specs.Written.{written}
 use Rattle.cdi_state.specs.declared.ModuleState.{ModuleState}
-use Rattle.cdi_model.specs.Step.{StepResult, poweredUp, command, responded}
+use Rattle.cdi_model.specs.Step.{Request, StepResult, poweredUp, command, responded}
 use Rattle.cdi_module.specs.Module.{Decision, refuse, execute, executePowerUp, decide, responseTo, blockResult, resultOf}
 
 -- the length that a result tells is at most that of its buffer
@@ -24,7 +24,7 @@ decided-fits s response (refuse n) = omega arith
 decided-fits s response (execute c) = written-holds response (responseTo s c)
 decided-fits s response executePowerUp = omega arith
 
-pub result-within : (s : ModuleState) (block response after : List ℕ) (n l : ℕ)
-    → responded n l after ≡ resultOf s (command block response) → l ≤ length after
+pub result-within : (s : ModuleState) (r : Request) (after : List ℕ) (n l : ℕ)
+    → responded n l after ≡ resultOf s (command r) → l ≤ length after
 unfolding resultOf
-result-within s block response after n l e = subst Fits (sym e) (decided-fits s response (decide s (command block response)))
+result-within s r after n l e = subst Fits (sym e) (decided-fits s (r .response) (decide s (command r)))

@@ -1,4 +1,3 @@
-pub mod Value
 pub mod Module
 pub mod Machine
 pub mod Theorem

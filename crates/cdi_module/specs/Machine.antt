@@ -6,7 +6,7 @@ use Rattle.sequence.specs.Machine.{Machine}
 use Rattle.cdi_state.specs.declared.Settings.{Settings}
 use Rattle.cdi_state.specs.declared.ModuleState.{ModuleState}
 use Rattle.cdi_state.specs.State.{inputBytes, slotBytes, inputAt, noSlot, ArrayLengths}
-use Rattle.cdi_model.specs.Cells.{nv, working, Setting, lineMask, latchMask, txPower, controlSource, messageSelect, interruptMask, setting, input, slot, address, Single, name, firmware, serial, lines, rssi, ladj, events, flags, hardwarePower, hardwareLineMask, hardwareLatchMask, Cell, stored, single}
+use Rattle.cdi_model.specs.Cells.{nv, working, Setting, lineMask, latchMask, txPower, controlSource, messageSelect, interruptMask, setting, input, slot, address, Single, name, firmware, serial, lines, rssi, ladj, events, flags, hardwarePower, hardwareLineMask, hardwareLatchMask, Cell, copyOf, single}
 use Rattle.cdi_model.specs.Model.{model}
 use Rattle.cdi_module.specs.Module.{step, resultOf}
 
@@ -19,28 +19,28 @@ settingHeld t messageSelect = t .«message_select»
 settingHeld t interruptMask = t .«interrupt_mask»
 
 abbrev pub singleHeld : ModuleState → Single → List ℕ
-singleHeld s name = s .name
-singleHeld s firmware = s .firmware
-singleHeld s serial = s .serial
-singleHeld s lines = s .lines
-singleHeld s rssi = s .rssi
-singleHeld s ladj = s .ladj ∷ []
-singleHeld s events = s .events ∷ []
-singleHeld s flags = s .flags ∷ []
-singleHeld s hardwarePower = s .hardware .power ∷ []
-singleHeld s hardwareLineMask = s .hardware .«line_mask» ∷ []
-singleHeld s hardwareLatchMask = s .hardware .«latch_mask» ∷ []
+singleHeld s name = s .stored .name
+singleHeld s firmware = s .stored .firmware
+singleHeld s serial = s .stored .serial
+singleHeld s lines = s .live .lines
+singleHeld s rssi = s .live .rssi
+singleHeld s ladj = s .live .ladj ∷ []
+singleHeld s events = s .live .events ∷ []
+singleHeld s flags = s .live .flags ∷ []
+singleHeld s hardwarePower = s .live .hardware .power ∷ []
+singleHeld s hardwareLineMask = s .live .hardware .«line_mask» ∷ []
+singleHeld s hardwareLatchMask = s .live .hardware .«latch_mask» ∷ []
 
 -- every field of a state is a cell, or holds some cells
 unfoldable pub cells : ModuleState → Cell → List ℕ
-cells s (stored nv (setting x)) = settingHeld (s .nv) x ∷ []
-cells s (stored nv (input n)) = inputBytes (inputAt (s .nv) n)
-cells s (stored nv (slot i)) = slotBytes (getD (s .slots) i noSlot)
-cells s (stored nv address) = s .address
-cells s (stored working (setting x)) = settingHeld (s .working) x ∷ []
-cells s (stored working (input n)) = inputBytes (inputAt (s .working) n)
-cells s (stored working (slot i)) = []
-cells s (stored working address) = []
+cells s (copyOf nv (setting x)) = settingHeld (s .stored .settings) x ∷ []
+cells s (copyOf nv (input n)) = inputBytes (inputAt (s .stored .settings) n)
+cells s (copyOf nv (slot i)) = slotBytes (getD (s .stored .slots) i noSlot)
+cells s (copyOf nv address) = s .stored .address
+cells s (copyOf working (setting x)) = settingHeld (s .working .settings) x ∷ []
+cells s (copyOf working (input n)) = inputBytes (inputAt (s .working .settings) n)
+cells s (copyOf working (slot i)) = []
+cells s (copyOf working address) = []
 cells s (single x) = singleHeld s x
 
 -- `step` and `resultOf` are those of the contracts of `execute` and `power_up`

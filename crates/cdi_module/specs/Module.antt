@@ -17,8 +17,8 @@ use Rattle.cdi_command.specs.Payload.{commandPayload, responsePayload, response
 use Rattle.cdi_state.specs.declared.ModuleState.{ModuleState}
 use Rattle.cdi_valid.specs.Valid.{isValid}
 use Rattle.cdi_store.specs.Store.{stores, stateAfter, stateAtPowerUp}
-use Rattle.cdi_model.specs.Step.{Step, powerUp, command, StepResult, poweredUp, responded}
-use Rattle.cdi_module.specs.Value.{valueRead}
+use Rattle.cdi_value.specs.Value.{valueRead}
+use Rattle.cdi_model.specs.Step.{Request, Step, powerUp, command, StepResult, poweredUp, responded}
 use Rattle.cdi_module.specs.declared.Decided.{Decided}
 
 pub data Decision : Type 0 where
@@ -36,15 +36,15 @@ unfoldable pub commandIn : List ℕ → Result Command
 commandIn block = andThen (readFrame wakeLimit block) (λ span. validatePayload (payloadIn block span))
 
 -- refusals 1 and 2 stand before those of the block
-abbrev pub decideIf : (valid : Bool) (block response : List ℕ) → Decision
-decideIf valid block response =
-    cond (ltb (length response) responseBufferMin) (refuse responseBufferShort)
-    (cond valid (decided (commandIn block)) (refuse invalid))
+abbrev pub decideIf : (valid : Bool) → Request → Decision
+decideIf valid r =
+    cond (ltb (length (r .response)) responseBufferMin) (refuse responseBufferShort)
+    (cond valid (decided (commandIn (r .block))) (refuse invalid))
 
 -- of a power-up there is 2 alone
 unfoldable pub decide : ModuleState → Step → Decision
 decide s powerUp = cond (isValid s) executePowerUp (refuse invalid)
-decide s (command block response) = decideIf (isValid s) block response
+decide s (command r) = decideIf (isValid s) r
 
 -- the state by the decision: a refusal changes nothing
 abbrev pub stateBy : ModuleState → Decision → ModuleState
@@ -75,7 +75,7 @@ refusalBy executePowerUp = none
 
 abbrev pub resultBy : ModuleState → Step → Decision → StepResult
 resultBy s powerUp d = poweredUp (refusalBy d)
-resultBy s (command block response) d = blockResult s response d
+resultBy s (command r) d = blockResult s (r .response) d
 
 unfoldable pub step : ModuleState → Step → ModuleState
 step s x = stateBy s (decide s x)

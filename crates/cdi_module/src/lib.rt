@@ -1,7 +1,6 @@
 // The module: a command block executed on a state, and a power-up. Document 01, "What the unit serves". The sequence theorem is
 // about these two entries.
 mod response;
-mod value;
 
 ghost use mathlib.Core.Path.{_≡_};
 ghost use mathlib.Core.Bool.{_||_};
@@ -10,10 +9,11 @@ ghost use lib.ListN.{length};
 ghost use Rattle.cdi_command.specs.Payload.{responseBufferMin};
 ghost use Rattle.cdi_command.specs.Command.{validatePayload};
 ghost use Rattle.cdi_valid.specs.Valid.{isValid};
-ghost use Rattle.cdi_model.specs.Step.{command, powerUp, poweredUp, responded};
+ghost use Rattle.cdi_model.specs.Step.{request, command, powerUp, poweredUp, responded};
 ghost use Rattle.cdi_module.specs.Module.{decided, decideIf, decide, refusedAs, Responds, step, resultOf};
 use cdi_command::Validated;
-use cdi_frame::Frame;
+use cdi_frame::FrameRead;
+use cdi_frame::WAKE_LIMIT;
 use cdi_state::ModuleState;
 use refusal::INVALID;
 use refusal::NONE;
@@ -64,7 +64,7 @@ fn respond_payload(state: ModuleState, payload: &[u8], response: &mut [u8]) -> D
     match validated {
         Validated::Refused(number) => refused(number),
         Validated::Accepted(command) => {
-            let shown = value::read(state, command);
+            let shown = cdi_value::read(state, command);
             let n = shown.length;
             let bytes = shown.bytes;
             let length = response::write_response(payload, &bytes[0..n], response);
@@ -82,7 +82,7 @@ fn respond_payload(state: ModuleState, payload: &[u8], response: &mut [u8]) -> D
 
 // Decides on a command block, given whether the state is valid, and writes its response.
 fn respond_if(valid: bool, state: ModuleState, block: &[u8], response: &mut [u8]) -> Decided
-    ensures { λ r. ⌜ Responds state (decideIf valid (now (block .entry)) (now (response .entry))) (now (response .entry)) (now (response .exit)) r ⌝ }
+    ensures { λ r. ⌜ Responds state (decideIf valid (request (now (block .entry)) (now (response .entry)))) (now (response .entry)) (now (response .exit)) r ⌝ }
 {
     if response.len() < RESPONSE_BUFFER_MIN {
         return refused(RESPONSE_BUFFER_SHORT);
@@ -90,10 +90,10 @@ fn respond_if(valid: bool, state: ModuleState, block: &[u8], response: &mut [u8]
     if !valid {
         return refused(INVALID);
     }
-    let frame = cdi_frame::read_frame(block);
+    let frame = cdi_frame::read_frame(block, WAKE_LIMIT);
     match frame {
-        Frame::Refused(number) => refused(number),
-        Frame::Payload(span) => {
+        FrameRead::Refused(number) => refused(number),
+        FrameRead::Payload(span) => {
             let start = span.start;
             let end = start + span.length;
             respond_payload(state, &block[start..end], response)
@@ -104,7 +104,7 @@ fn respond_if(valid: bool, state: ModuleState, block: &[u8], response: &mut [u8]
 // Decides on a command block and writes its response over the front of `response`; the bytes behind it stay. A refusal changes no
 // byte of it. `cdi_store::store` then gives the state after the block.
 pub fn respond(state: ModuleState, block: &[u8], response: &mut [u8]) -> Decided
-    ensures { λ r. ⌜ Responds state (decide state (command (now (block .entry)) (now (response .entry)))) (now (response .entry)) (now (response .exit)) r ⌝ }
+    ensures { λ r. ⌜ Responds state (decide state (command (request (now (block .entry)) (now (response .entry))))) (now (response .entry)) (now (response .exit)) r ⌝ }
 {
     let valid = cdi_valid::is_valid(state);
     respond_if(valid, state, block, response)
@@ -123,7 +123,7 @@ fn is_known_or_valid(known: bool, state: ModuleState) -> bool
 // The same for a state that may be known to be valid: no step changes whether a state is, so who runs many blocks asks once. Where
 // `known` is false it is `respond`. Who says that an invalid state is valid has it taken so, as the contract tells.
 pub fn respond_known(known: bool, state: ModuleState, block: &[u8], response: &mut [u8]) -> Decided
-    ensures { λ r. ⌜ Responds state (decideIf (known || isValid state) (now (block .entry)) (now (response .entry))) (now (response .entry)) (now (response .exit)) r ⌝ }
+    ensures { λ r. ⌜ Responds state (decideIf (known || isValid state) (request (now (block .entry)) (now (response .entry)))) (now (response .entry)) (now (response .exit)) r ⌝ }
 {
     let valid = is_known_or_valid(known, state);
     respond_if(valid, state, block, response)
@@ -132,19 +132,23 @@ pub fn respond_known(known: bool, state: ModuleState, block: &[u8], response: &m
 // Executes one command block on a state. The response is written over the front of `response` and the bytes behind it stay; a
 // refusal changes no byte of it, and nothing in the state.
 pub fn execute(state: ModuleState, block: &[u8], response: &mut [u8]) -> Execution
-    ensures { λ r. ⌜ (r .state ≡ step state (command (now (block .entry)) (now (response .entry)))) × (responded (r .outcome .refusal) (r .outcome .length) (now (response .exit)) ≡ resultOf state (command (now (block .entry)) (now (response .entry)))) ⌝ }
+    ensures { λ r. ⌜ (r .state ≡ step state (command (request (now (block .entry)) (now (response .entry))))) × (responded (r .outcome .refusal) (r .outcome .length) (now (response .exit)) ≡ resultOf state (command (request (now (block .entry)) (now (response .entry))))) ⌝ }
 {
     let decided = respond(state, block, response);
     let validated = decided.validated;
     let outcome = decided.outcome;
-    let after = cdi_store::store(state, validated);
+    let after = if decided.stores {
+        cdi_store::store(state, validated)
+    } else {
+        state
+    };
     Execution {
         state: after,
         outcome,
     }
 }
 
-// Powers a module up: its working settings are taken from the non-volatile ones, RSSI is 80 80, events and flags are 00.
+// Powers a module up: its working part is made from the stored one, RSSI is 80 80, events and flags are 00.
 pub fn power_up(state: ModuleState) -> PowerUp
     ensures { λ r. ⌜ (r .state ≡ step state powerUp) × (poweredUp (r .refusal) ≡ resultOf state powerUp) ⌝ }
 {

@@ -8,7 +8,7 @@ use Rattle.analog.specs.Analog.{sumOf}
 use Rattle.cdi_frame.specs.Frame.{wakes, lengthAt, readFrame}
 use Rattle.cdi_item.specs.Items.{items, itemIn, itemOf}
 use Rattle.cdi_item.specs.Values.{acceptedValue}
-use Rattle.cdi_command.specs.Command.{select, commandOn, validateItem, isServed, isHeadLengthRight, validatePayload}
+use Rattle.cdi_command.specs.Command.{select, commandOn, parseItem, isServed, isHeadLengthRight, parsePayload, validatePayload}
 use Rattle.cdi_valid.specs.Valid.{isValid}
 use Rattle.cdi_store.specs.Store.{settingStored}
 use Rattle.cdi_value.specs.Value.{settingByte, plainValue}
@@ -19,6 +19,6 @@ pub example-count : length examples ≡ 16
 example-count = refl
 
 pub examples-hold : AllHold examples
-unfolding written run sumOf items itemIn itemOf acceptedValue wakes lengthAt readFrame select commandOn validateItem isServed isHeadLengthRight validatePayload isValid settingByte plainValue settingStored commandIn decide step resultOf
+unfolding written run sumOf items itemIn itemOf acceptedValue wakes lengthAt readFrame select commandOn parseItem isServed isHeadLengthRight parsePayload validatePayload isValid settingByte plainValue settingStored commandIn decide step resultOf
 examples-hold =
     (refl, (refl, (refl, (refl, (refl, (refl, (refl, (refl, (refl, (refl, (refl, (refl, (refl, (refl, ((refl, refl), ((refl, tt), tt))))))))))))))))

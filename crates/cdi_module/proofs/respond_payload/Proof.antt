@@ -5,7 +5,6 @@ use native.Mathlib.Nat.{sub-zero}
 use native.Mathlib.Omega.{arith}
 use lib.ListN.{length}
 use Rattle.cdi_command.specs.Command.{validatedResult}
-use Rattle.cdi_command.proofs.Accepted.{accepted-well-formed}
 use Rattle.cdi_value.specs.Value.{valueMax, shownBytes}
 use Rattle.cdi_module.proofs.Responses.{Fits, response-fits}
 use Rattle.cdi_module.proofs.Told.{refusal-told, response-told}
@@ -33,11 +32,7 @@ enum-known-validated-2 : tie.Need-enum-known-validated-2
 enum-known-validated-2 c = search needs
 
 read-requires : tie.Need-read-requires
-read-requires c κs =
-    let d = c .before in
-    let v = d .before .before in
-    let p = v .before .before .before .args .payload .now in
-    accepted-well-formed p _ (sym (v .validate-payload .ensures) ∙ ap validatedResult (d .validated2 .given .1))
+read-requires c κs = search needs
 
 sub-write-response : tie.Need-sub-write-response
 sub-write-response c = search needs
