@@ -9,8 +9,7 @@ use Rattle.cdi_item.specs.Values.{acceptedValue}
 use Rattle.cdi_state.specs.declared.ModuleState.{ModuleState}
 use Rattle.cdi_state.specs.State.{factoryState}
 use Rattle.cdi_valid.specs.Valid.{isValid}
-use Rattle.cdi_module.specs.Machine.{cells}
-use Rattle.cdi_image.specs.Image.{imageOf, saved, slotsIn, loaded}
+use Rattle.cdi_image.specs.Image.{contentsOf, imageOf, saved, slotsIn, storedIn, loaded}
 
 -- the image of the factory state
 abbrev factoryImage : List ℕ
@@ -18,8 +17,8 @@ factoryImage =
     0x53 ∷ 0x57 ∷ 0x42 ∷ 0x00 ∷ 0x01 ∷ replicate 28 0x00 ++ 0x00 ∷ 0x00 ∷ 0x00 ∷ 0x06 ∷ 0x00 ∷ 0xFF ∷ 0x01 ∷ 0x00 ∷ 0x00 ∷ 0x00 ∷ 0xFF ∷ 0x01 ∷ 0x00 ∷ 0x00 ∷ 0x00 ∷
     replicate 201 0x00
 
-pub factory-image : imageOf factoryState ≡ factoryImage
-unfolding imageOf cells flatMap
+pub factory-image : imageOf (factoryState .stored) ≡ factoryImage
+unfolding contentsOf flatMap
 factory-image = refl
 
 -- it with another byte at a place
@@ -29,19 +28,16 @@ having place byte = set factoryImage place byte
 -- the factory state with other flags
 abbrev flagged : ℕ → ModuleState
 flagged flags = record {
-  name = factoryState .name;
-  firmware = factoryState .firmware;
-  serial = factoryState .serial;
-  address = factoryState .address;
-  nv = factoryState .nv;
+  stored = factoryState .stored;
   working = factoryState .working;
-  slots = factoryState .slots;
-  lines = factoryState .lines;
-  rssi = factoryState .rssi;
-  ladj = factoryState .ladj;
-  events = factoryState .events;
-  flags = flags;
-  hardware = factoryState .hardware;
+  live = record {
+    lines = factoryState .live .lines;
+    rssi = factoryState .live .rssi;
+    ladj = factoryState .live .ladj;
+    events = factoryState .live .events;
+    flags = flags;
+    hardware = factoryState .live .hardware;
+  };
 }
 
 -- an image, and what a Load of it is refused with, on a state that is not valid
@@ -64,7 +60,7 @@ loads =
     (having 41 0x80, 0) ∷ (having 47 0xFF, 0) ∷ (having 48 0x01, 0) ∷ (having 243 0xFF, 0) ∷ (having 248 0xFF, 0) ∷ []
 
 pub loads-hold : map (λ (r : List ℕ × ℕ). refusalOf (loaded (flagged 0x80) (r .0))) loads ≡ map (λ (r : List ℕ × ℕ). r .1) loads
-unfolding loaded slotsIn acceptedValue
+unfolding loaded storedIn slotsIn acceptedValue
 loads-hold = refl
 
 -- flags, a buffer's length, and what a Save is refused with

@@ -1,74 +1,67 @@
 -- What Save writes Load takes, and gives back the same cells; what Load accepts Save writes again.
 -- Assumes nothing.
 use Prim.Native.Nat.{ℕ}
-use mathlib.Core.Path.{_≡_, refl, ap, _∙_, subst}
-use mathlib.Core.List.{List, flatten}
-use mathlib.Core.Bool.{Bool, true, false, not, _&&_}
-use native.Mathlib.Omega.{arith}
-use Rattle.logic.specs.Lists.{hasZero, part}
+use mathlib.Core.Path.{_≡_, ap, _∙_, subst}
+use mathlib.Core.List.{List, _++_}
+use mathlib.Core.Bool.{Bool, true, not, _&&_, and-eq-true-iff}
+use lib.ListN.{drop}
+use Rattle.logic.specs.Lists.{hasZero}
 use Rattle.refusal.specs.Refusal.{accepted}
 use Rattle.refusal.proofs.Results.{then-refused}
+use Rattle.cdi_state.specs.declared.Stored.{Stored}
 use Rattle.cdi_state.specs.declared.ModuleState.{ModuleState}
-use Rattle.cdi_state.specs.State.{ArrayLengths, FieldLengths}
-use Rattle.cdi_valid.specs.Valid.{validSettings, validSlots, validFlags, isValid}
+use Rattle.cdi_valid.specs.Valid.{validSettings, validSlots, validStored, validFlags, isValid}
 use Rattle.cdi_store.specs.Store.{stateAtPowerUp}
-use Rattle.cdi_image.specs.Image.{imageOf, saved, withImage}
+use Rattle.cdi_image.specs.Image.{mark, version1, headSize, contentsOf, imageOf, saved, storedIn, withStored}
 use Rattle.cdi_image.specs.Laws.{Reloaded, SaveThenLoad, AfterLoad, LoadThenSave}
 use Rattle.cdi_image.proofs.Fit.{Fit, fit-loads, loads-fit, passed}
-use Rattle.cdi_image.proofs.Contents.{contents-alone}
-use Rattle.cdi_image.proofs.Cut.{flatten-cut}
-use Rattle.cdi_image.proofs.Rows.{slot-count}
-use Rattle.cdi_image.proofs.Parts.{partSizes, image-is-parts, parts-of-read}
-use Rattle.cdi_image.proofs.Kept.{withKept, cells-after}
-use Rattle.cdi_image.proofs.ReadBack.{image-length, part-read, kept-read}
+use Rattle.cdi_image.proofs.Contents.{contents-written, contents-length, contents-read}
+use Rattle.cdi_image.proofs.Cells.{cells-after}
+
+-- the first of two tests that both pass
+first : (a b : Bool) → a && b ≡ true → a ≡ true
+first a b e = and-eq-true-iff a b .0 e .0
 
 -- ---- Save, then Load
--- a valid state's name, non-volatile settings and slots are
-asked-less : (a b c d e : Bool) → (((a && b) && c) && d) && e ≡ true → (a && b) && d ≡ true
-asked-less true true true true e h = refl
-asked-less true true true false e h = h
-asked-less true true false d e h = cc
-asked-less true false c d e h = h
-asked-less false b c d e h = h
-
-image-fits : (s : ModuleState) → ArrayLengths s → FieldLengths s → isValid s ≡ true → Fit (imageOf s)
+stored-valid : (s : ModuleState) → isValid s ≡ true → validStored (s .stored) ≡ true
 unfolding isValid
-image-fits s a f v =
-    let kept : ModuleState → Bool = λ u. (hasZero (u .name) && validSettings (u .nv)) && validSlots (u .slots) in
-    record {
-      size = image-length s a f;
-      marked = part-read s a f 0;
-      versioned = part-read s a f 1;
-      valid = ap kept (kept-read s a f s)
-          ∙ asked-less (hasZero (s .name)) (validSettings (s .nv)) (validSettings (s .working)) (validSlots (s .slots)) (validFlags (s .flags)) v;
-    }
+stored-valid s v = first (validStored (s .stored)) (validSettings (s .working .settings)) (first _ (validFlags (s .live .flags)) v)
 
 pub save-then-load : SaveThenLoad
 unfolding saved
-save-then-load s t a f image e =
+save-then-load s t inputs forty f image e =
+    let x = s .stored in
     let v = then-refused (not (isValid s)) _ _ image e in
-    let same : imageOf s ≡ image = cc in
-    let taken = fit-loads t (imageOf s) (image-fits s a f (passed (isValid s) (v .0))) in
+    let same : imageOf x ≡ image = cc in
+    let back = contents-read x inputs forty f in
+    let fit : Fit (contentsOf x) = record {
+      size = contents-length x inputs forty f;
+      valid = ap validStored back ∙ stored-valid s (passed (isValid s) (v .0));
+    } in
     subst (Reloaded s t) same (record {
-      state = stateAtPowerUp (withKept t s);
-      taken = taken ∙ ap (λ (u : ModuleState). accepted (stateAtPowerUp u)) (kept-read s a f t);
+      state = stateAtPowerUp (withStored t x);
+      taken = fit-loads t (contentsOf x) fit ∙ ap (λ (y : Stored). accepted (stateAtPowerUp (withStored t y))) back;
       same-cells = λ c k. cells-after t s c ∙ rw k;
     })
 
 -- ---- Load, then Save
-written-again : (s : ModuleState) (image : List ℕ) → Fit image → imageOf (stateAtPowerUp (withImage s image)) ≡ image
-written-again s image f =
-    image-is-parts (stateAtPowerUp (withImage s image)) (slot-count 40 (part 48 200 image))
-    ∙ ap flatten (parts-of-read s image (f .size) (f .marked) (f .versioned))
-    ∙ flatten-cut 0 partSizes image (omega (arith, f .size))
+-- the power-up makes the working settings from the stored ones, and clears the flags
+powered-up-valid : (s : ModuleState) → validStored (s .stored) ≡ true → isValid (stateAtPowerUp s) ≡ true
+unfolding isValid
+powered-up-valid s v =
+    let x = s .stored in
+    let settings = and-eq-true-iff (hasZero (x .name)) (validSettings (x .settings)) .0 (first _ (validSlots (x .slots)) v) .1 in
+    rw (v, settings)
 
 pub load-then-save : LoadThenSave
 unfolding saved
 load-then-save s image t e =
+    let x = storedIn (drop headSize image) in
     let f = loads-fit s image t e in
-    let valid = contents-alone s image ∙ f .0 .valid in
-    subst (AfterLoad s image) (f .1) (record {
+    let valid = powered-up-valid (withStored s x) (f .0 .valid) in
+    let again : imageOf x ≡ image = ap (λ (l : List ℕ). mark ++ version1 ++ l) (contents-written (drop headSize image) (f .0 .size)) ∙ f .1 in
+    subst (AfterLoad s image) (f .2) (record {
       valid = valid;
-      saved-again = rw (valid, written-again s image (f .0));
-      other-cells = λ c k. cells-after s (withImage s image) c ∙ rw k;
+      saved-again = rw (valid, again);
+      other-cells = λ c k. cells-after s (withStored s x) c ∙ rw k;
     })

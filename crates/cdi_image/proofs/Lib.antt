@@ -3,10 +3,7 @@ pub mod Contents
 pub mod Cut
 pub mod Examples
 pub mod Fit
-pub mod Kept
 pub mod Laws
-pub mod Parts
 pub mod Puts
-pub mod ReadBack
 pub mod Rows
 pub mod Tests

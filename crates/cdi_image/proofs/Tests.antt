@@ -1,10 +1,9 @@
--- By computation: which cells an image has, and the image of a state.
+-- By computation: which cells an image has, and the image of a stored part.
 -- Assumes nothing.
 use mathlib.Core.Path.{refl}
 use mathlib.Core.List.{flatMap}
 use Rattle.cdi_model.specs.Tight.{everyCell}
-use Rattle.cdi_module.specs.Machine.{cells}
-use Rattle.cdi_image.specs.Image.{imageOf}
+use Rattle.cdi_image.specs.Image.{contentsOf}
 use Rattle.cdi_image.specs.Laws.{KeptCells, SampleImage}
 
 pub kept-cells : KeptCells
@@ -12,5 +11,5 @@ unfolding everyCell
 kept-cells = record { all-kept = refl; no-others = refl; each-once = refl }
 
 pub sample-image : SampleImage
-unfolding imageOf cells flatMap
+unfolding contentsOf flatMap
 sample-image = refl

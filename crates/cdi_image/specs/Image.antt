@@ -1,130 +1,142 @@
--- Document 01, "Command writer and stored image": the image of a state, what Save writes and what Load gives.
-use Prim.Native.Nat.{ℕ, zero, suc, _+_, _-_, _*_}
-use mathlib.Core.List.{List, [], _∷_, _++_, map, flatMap}
-use mathlib.Core.Bool.{Bool, cond, not, _&&_}
+-- Document 01, "Command writer and stored image": the image of the stored part, what Save writes and what Load gives.
+use Prim.Native.Nat.{ℕ, zero, suc, _+_, _-_}
+use mathlib.Core.List.{List, [], _∷_, _++_, flatMap}
+use mathlib.Core.Bool.{cond, not}
 use lib.Dec.{eqb}
 use lib.ListN.{length, getD, take, drop}
-use Rattle.logic.specs.Lists.{below, sameBytes, hasZero, part}
-use Rattle.refusal.specs.Refusal.{Result, accepted, refused, invalid, imageLength, imageMark, imageVersion}
-use Rattle.cdi_item.specs.Items.{nameLength, rowLength, slotCount}
-use Rattle.cdi_state.specs.State.{inputIn, slotIn}
+use Rattle.logic.specs.Lists.{sameBytes, part}
+use Rattle.refusal.specs.Refusal.{Result, accepted, refused, none, invalid, imageLength, imageMark, imageVersion}
+use Rattle.cdi_item.specs.Items.{rowLength, slotCount}
 use Rattle.cdi_state.specs.declared.Slot.{Slot}
 use Rattle.cdi_state.specs.declared.Settings.{Settings}
+use Rattle.cdi_state.specs.declared.Stored.{Stored}
 use Rattle.cdi_state.specs.declared.ModuleState.{ModuleState}
-use Rattle.cdi_valid.specs.Valid.{validSettings, validSlots, isValid}
+use Rattle.cdi_state.specs.State.{inputBytes, slotBytes, inputIn, slotIn, inputAt, settingBytes}
+use Rattle.cdi_valid.specs.Valid.{validStored, isValid}
 use Rattle.cdi_store.specs.Store.{stateAtPowerUp}
-use Rattle.cdi_model.specs.Cells.{nv, lineMask, latchMask, txPower, controlSource, messageSelect, interruptMask, setting, input, slot, address, name, firmware, serial, Cell, stored, single}
-use Rattle.cdi_module.specs.Machine.{cells}
+use Rattle.cdi_image.specs.declared.Loaded.{Loaded}
 
--- ---- the image
+-- ---- the head of an image: the mark, then the version
 -- SWB
 abbrev pub mark : List ℕ
 mark = 0x53 ∷ 0x57 ∷ 0x42 ∷ []
 
--- the high byte first
-abbrev pub version : List ℕ
-version = 0x00 ∷ 0x01 ∷ []
+-- version 1, the high byte first
+abbrev pub version1 : List ℕ
+version1 = 0x00 ∷ 0x01 ∷ []
 
--- 01's N cells and the slots, in the order of their items
-abbrev pub imageCells : List Cell
-imageCells =
-    single name ∷ single firmware ∷ single serial ∷ stored nv address ∷ stored nv (setting lineMask) ∷ stored nv (setting latchMask) ∷
-    stored nv (setting txPower) ∷ stored nv (setting controlSource) ∷ stored nv (setting messageSelect) ∷ stored nv (input 1) ∷
-    stored nv (input 2) ∷ map (λ i. stored nv (slot i)) (below slotCount []) ++ stored nv (setting interruptMask) ∷ []
-
-unfoldable pub imageOf : ModuleState → List ℕ
-imageOf s = mark ++ version ++ flatMap (cells s) imageCells
-
-abbrev pub imageSize : ℕ
-imageSize = 249
-
--- ---- Save: refusals 17, 2
-unfoldable pub saved : ModuleState → ℕ → Result (List ℕ)
-saved s room =
-    cond (not (eqb room imageSize)) (refused imageLength)
-    (cond (not (isValid s)) (refused invalid) (accepted (imageOf s)))
-
--- ---- what the cells of an image are in a state
--- where the version and the cells start: the three bytes of the mark, then each behind the one before
+-- where the version starts, and where the head ends
 abbrev pub versionAt : ℕ
 versionAt = 3
 
+abbrev pub headSize : ℕ
+headSize = 5
+
+-- ---- the contents of an image: 01's N cells, in item order
+-- items 11 to 15: the settings of one byte without item 25
+abbrev pub settings11To15 : Settings → List ℕ
+settings11To15 x = take 5 (settingBytes x)
+
+-- 17 of name, 3, 4, 4, five of 11 to 15, two rows of 5, the 40 slots of 5, one of 25
+unfoldable pub contentsOf : Stored → List ℕ
+contentsOf t =
+    t .name ++ t .firmware ++ t .serial ++ t .address ++ settings11To15 (t .settings) ++
+    inputBytes (inputAt (t .settings) 1) ++ inputBytes (inputAt (t .settings) 2) ++
+    flatMap slotBytes (t .slots) ++ t .settings .«interrupt_mask» ∷ []
+
+-- ---- the image of version 1
+abbrev pub imageOf : Stored → List ℕ
+imageOf t = mark ++ version1 ++ contentsOf t
+
+abbrev pub contentsSize : ℕ
+contentsSize = 244
+
+abbrev pub imageV1Size : ℕ
+imageV1Size = 249
+
+-- ---- Save: refusals 17, 2. The whole state has to be valid
+unfoldable pub saved : ModuleState → ℕ → Result (List ℕ)
+saved s room =
+    cond (not (eqb room imageV1Size)) (refused imageLength)
+    (cond (not (isValid s)) (refused invalid) (accepted (imageOf (s .stored))))
+
+-- ---- what contents are as a stored part
+-- where each part of the contents starts, behind the one before
 abbrev pub nameAt : ℕ
-nameAt = 5
+nameAt = 0
 
 abbrev pub firmwareAt : ℕ
-firmwareAt = 22
+firmwareAt = 17
 
 abbrev pub serialAt : ℕ
-serialAt = 25
+serialAt = 20
 
 abbrev pub addressAt : ℕ
-addressAt = 29
+addressAt = 24
 
 abbrev pub settingsAt : ℕ
-settingsAt = 33
+settingsAt = 28
 
 abbrev pub input1At : ℕ
-input1At = 38
+input1At = 33
 
 abbrev pub input2At : ℕ
-input2At = 43
+input2At = 38
 
 abbrev pub slotsAt : ℕ
-slotsAt = 48
+slotsAt = 43
 
 abbrev pub interruptMaskAt : ℕ
-interruptMaskAt = 248
+interruptMaskAt = 243
+
+-- the bytes from one place to another
+abbrev pub between : (from to : ℕ) → List ℕ → List ℕ
+between from to l = part from (to - from) l
+
+abbrev pub settingsIn : List ℕ → Settings
+settingsIn contents = record {
+  «line_mask» = getD contents settingsAt 0;
+  «latch_mask» = getD contents (settingsAt + 1) 0;
+  «tx_power» = getD contents (settingsAt + 2) 0;
+  «control_source» = getD contents (settingsAt + 3) 0;
+  «message_select» = getD contents (settingsAt + 4) 0;
+  «analog_inputs» = inputIn (between input1At input2At contents) ∷ inputIn (between input2At slotsAt contents) ∷ [];
+  «interrupt_mask» = getD contents interruptMaskAt 0;
+}
 
 -- so many slots, one row behind the other
 unfoldable pub slotsIn : ℕ → List ℕ → List Slot
 slotsIn zero rows = []
 slotsIn (suc n) rows = slotIn (take rowLength rows) ∷ slotsIn n (drop rowLength rows)
 
-abbrev pub imageName : List ℕ → List ℕ
-imageName image = part nameAt nameLength image
-
-abbrev pub imageSettings : List ℕ → Settings
-imageSettings image = record {
-  «line_mask» = getD image settingsAt 0;
-  «latch_mask» = getD image (settingsAt + 1) 0;
-  «tx_power» = getD image (settingsAt + 2) 0;
-  «control_source» = getD image (settingsAt + 3) 0;
-  «message_select» = getD image (settingsAt + 4) 0;
-  «analog_inputs» = inputIn (part input1At rowLength image) ∷ inputIn (part input2At rowLength image) ∷ [];
-  «interrupt_mask» = getD image interruptMaskAt 0;
-}
-
-abbrev pub imageSlots : List ℕ → List Slot
-imageSlots image = slotsIn slotCount (part slotsAt (slotCount * rowLength) image)
-
--- a state with the cells of an image: all else stays
-abbrev pub withImage : ModuleState → List ℕ → ModuleState
-withImage s image = record {
-  name = imageName image;
-  firmware = part firmwareAt (serialAt - firmwareAt) image;
-  serial = part serialAt (addressAt - serialAt) image;
-  address = part addressAt (settingsAt - addressAt) image;
-  nv = imageSettings image;
-  working = s .working;
-  slots = imageSlots image;
-  lines = s .lines;
-  rssi = s .rssi;
-  ladj = s .ladj;
-  events = s .events;
-  flags = s .flags;
-  hardware = s .hardware;
+-- what stands behind the contents is not looked at
+unfoldable pub storedIn : List ℕ → Stored
+storedIn contents = record {
+  name = between nameAt firmwareAt contents;
+  firmware = between firmwareAt serialAt contents;
+  serial = between serialAt addressAt contents;
+  address = between addressAt settingsAt contents;
+  settings = settingsIn contents;
+  slots = slotsIn slotCount (between slotsAt interruptMaskAt contents);
 }
 
 -- ---- Load: refusals 17, 18, 19, 2
--- the contents alone are asked about: the name has a 00, and items 13 to 16 and the slots hold accepted values
-abbrev pub validContents : List ℕ → Bool
-validContents image = (hasZero (imageName image) && validSettings (imageSettings image)) && validSlots (imageSlots image)
+-- the stored part is replaced, and then the module powers up
+abbrev pub withStored : ModuleState → Stored → ModuleState
+withStored s t = record { stored = t; working = s .working; live = s .live }
 
--- the cells are replaced, and then the module powers up; the state before it may be invalid
+-- the contents alone are asked about: the state before may be invalid
+abbrev pub storedLoaded : ModuleState → Stored → Result ModuleState
+storedLoaded s t = cond (not (validStored t)) (refused invalid) (accepted (stateAtPowerUp (withStored s t)))
+
 unfoldable pub loaded : ModuleState → List ℕ → Result ModuleState
 loaded s image =
-    cond (not (eqb (length image) imageSize)) (refused imageLength)
-    (cond (not (sameBytes (part 0 versionAt image) mark)) (refused imageMark)
-    (cond (not (sameBytes (part versionAt (nameAt - versionAt) image) version)) (refused imageVersion)
-    (cond (not (validContents image)) (refused invalid) (accepted (stateAtPowerUp (withImage s image))))))
+    cond (not (eqb (length image) imageV1Size)) (refused imageLength)
+    (cond (not (sameBytes (between 0 versionAt image) mark)) (refused imageMark)
+    (cond (not (sameBytes (between versionAt headSize image) version1)) (refused imageVersion)
+    (storedLoaded s (storedIn (drop headSize image)))))
+
+-- what a Load answers: the state after it and 0, or the number of its refusal, which leaves the state
+abbrev pub loadedAs : ModuleState → Result ModuleState → Loaded
+loadedAs s (accepted t) = record { state = t; refusal = none }
+loadedAs s (refused n) = record { state = s; refusal = n }

@@ -1,3 +1,3 @@
 pub mod Image
 pub mod Laws
-pub mod Parts
+pub mod Put

@@ -1,63 +1,114 @@
-// The stored image: document 01, "Command writer and stored image". `save` writes what a module keeps without power.
+// The stored image: document 01, "Command writer and stored image". `save` writes what a module keeps without power, and `load` brings
+// it back.
+mod read;
 mod write;
 
 ghost use mathlib.Core.Path.{_≡_};
 ghost use lib.ListN.{length};
 ghost use Rattle.refusal.specs.Refusal.{outcomeOf, bufferAfter};
-ghost use Rattle.cdi_image.specs.Image.{saved};
+ghost use Rattle.cdi_image.specs.Image.{saved, loaded, loadedAs};
 use cdi_state::ModuleState;
 use refusal::IMAGE_LENGTH;
+use refusal::IMAGE_MARK;
+use refusal::IMAGE_VERSION;
 use refusal::INVALID;
 use refusal::NONE;
 use refusal::Outcome;
 
-// The bytes of an image.
-pub const IMAGE_SIZE: usize = 249;
+// The bytes of an image of version 1.
+pub const IMAGE_V1_SIZE: usize = 249;
 
-// SWB.
-pub const MARK: [u8; 3] = [0x53, 0x57, 0x42];
+// An image starts with its head: the mark SWB, then the version with its high byte first.
+const MARK: [u8; 3] = [0x53, 0x57, 0x42];
 
-// The high byte first.
-pub const VERSION: [u8; 2] = [0x00, 0x01];
+const VERSION_1: [u8; 2] = [0x00, 0x01];
 
-// Where the version and the cells begin in an image.
-pub const VERSION_AT: usize = 3;
+const VERSION_AT: usize = 3;
 
-pub const NAME_AT: usize = 5;
+const HEAD_SIZE: usize = 5;
 
-pub const FIRMWARE_AT: usize = 22;
+// Where each part of the contents starts, counted from the end of the head.
+const NAME_AT: usize = 0;
 
-pub const SERIAL_AT: usize = 25;
+const FIRMWARE_AT: usize = 17;
 
-pub const ADDRESS_AT: usize = 29;
+const SERIAL_AT: usize = 20;
+
+const ADDRESS_AT: usize = 24;
 
 // The settings of one byte, items 11 to 15.
-pub const SETTINGS_AT: usize = 33;
+const SETTINGS_AT: usize = 28;
 
-pub const INPUT_1_AT: usize = 38;
+const INPUT_1_AT: usize = 33;
 
-pub const INPUT_2_AT: usize = 43;
+const INPUT_2_AT: usize = 38;
 
-pub const SLOTS_AT: usize = 48;
+const SLOTS_AT: usize = 43;
 
-pub const INTERRUPT_MASK_AT: usize = 248;
-
-// The bytes of a row of item 16 or 18.
-pub const ROW_SIZE: usize = 5;
+const INTERRUPT_MASK_AT: usize = 243;
 
 // Writes the image of a state, which fills `image`. A refusal writes no byte of it.
 pub fn save(state: ModuleState, image: &mut [u8]) -> Outcome
     ensures { λ r. ⌜ (r ≡ outcomeOf (saved state (length (now (image .entry))))) × (now (image .exit) ≡ bufferAfter (saved state (length (now (image .entry)))) (now (image .entry))) ⌝ }
 {
-    if image.len() != IMAGE_SIZE {
+    if image.len() != IMAGE_V1_SIZE {
         return refusal::refused(IMAGE_LENGTH);
     }
     if !cdi_valid::is_valid(state) {
         return refusal::refused(INVALID);
     }
-    write::write_image(state, image);
+    write::write_image(state.stored, image);
     Outcome {
         refusal: NONE,
-        length: IMAGE_SIZE,
+        length: IMAGE_V1_SIZE,
+    }
+}
+
+// What came of a load: the state after it, and the number of the refusal or 0.
+#[repr(C)]
+pub struct Loaded {
+    pub state: ModuleState,
+    pub refusal: u8,
+}
+
+// The state with what an image holds, and then powered up. The state before may be invalid; a refusal leaves it.
+pub fn load(state: ModuleState, image: &[u8]) -> Loaded
+    ensures { λ r. ⌜ r ≡ loadedAs state (loaded state (now (image .entry))) ⌝ }
+{
+    if image.len() != IMAGE_V1_SIZE {
+        return Loaded {
+            state,
+            refusal: IMAGE_LENGTH,
+        };
+    }
+    if !read::has_mark(image) {
+        return Loaded {
+            state,
+            refusal: IMAGE_MARK,
+        };
+    }
+    if !read::has_version_1(image) {
+        return Loaded {
+            state,
+            refusal: IMAGE_VERSION,
+        };
+    }
+    let stored = read::stored_in(&image[HEAD_SIZE..]);
+    if !cdi_valid::is_valid_stored(stored) {
+        return Loaded {
+            state,
+            refusal: INVALID,
+        };
+    }
+    let working = state.working;
+    let live = state.live;
+    let replaced = ModuleState {
+        stored,
+        working,
+        live,
+    };
+    Loaded {
+        state: cdi_store::powered_up(replaced),
+        refusal: NONE,
     }
 }

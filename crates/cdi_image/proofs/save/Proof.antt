@@ -1,14 +1,14 @@
 -- The refusals are the definition's, in the same order, and an image that is accepted fills the buffer.
 -- Assumes nothing.
 use Prim.Native.Nat.{ℕ}
-use mathlib.Core.Path.{refl, sym, ap, _∙_}
+use mathlib.Core.Path.{_≡_, refl, sym, ap, _∙_}
 use native.Mathlib.Omega.{arith}
 use borrow.Author.Needs.{needs}
 use borrow.Author.Tests.{eq-eqb, ne-eqb, not-true, not-false}
 use lib.ListN.{length}
-use Rattle.logic.proofs.Written.{written-all}
 use Rattle.refusal.specs.Refusal.{none, outcome}
-use Rattle.cdi_image.specs.Image.{imageSize, imageOf, saved}
+use Rattle.cdi_image.specs.Image.{imageV1Size, imageOf, saved}
+use Rattle.cdi_image.proofs.Puts.{put-front}
 use Rattle.cdi_image.proofs.save.Statement.{statement}
 use Rattle.cdi_image.proofs.save.Tie as tie
 
@@ -19,7 +19,7 @@ returns : tie.Need-returns
 unfolding saved
 returns c =
     let image = c .before .before .before .args .image .now in
-    simp (ne-eqb (length image) imageSize (c .before .if1 .taken)) (c .refused .ensures, refl)
+    simp (ne-eqb (length image) imageV1Size (c .before .if1 .taken)) (c .refused .ensures, refl)
 
 is-valid-requires : tie.Need-is-valid-requires
 is-valid-requires c κs = search needs
@@ -32,7 +32,7 @@ unfolding saved
 returns-2 c =
     let v = c .before .before in
     let image = v .before .before .before .args .image .now in
-    simp (eq-eqb (length image) imageSize (v .before .if1 .left), sym (v .is-valid .ensures) ∙ not-true (v .is-valid .result) (c .before .if2 .taken))
+    simp (eq-eqb (length image) imageV1Size (v .before .if1 .left), sym (v .is-valid .ensures) ∙ not-true (v .is-valid .result) (c .before .if2 .taken))
     (c .refused2 .ensures, refl)
 
 write-image-requires : tie.Need-write-image-requires
@@ -48,9 +48,10 @@ returns-3 c =
     let v = w .before .before .before in
     let a = v .before .before .before .args in
     let image = a .image .now in
-    let written = w .write-image .ensures in
-    simp (eq-eqb (length image) imageSize (v .before .if1 .left), sym (v .is-valid .ensures) ∙ not-false (v .is-valid .result) (w .before .before .if2 .left))
-    (ap (λ (n : ℕ). outcome none n) (sym (written .0)), written .1 ∙ sym (written-all image (imageOf (a .state)) (omega (arith, written .0))))
+    let put = w .write-image .ensures in
+    let size : imageV1Size ≡ length (imageOf (a .state .stored)) = omega (arith, put .ends) in
+    simp (eq-eqb (length image) imageV1Size (v .before .if1 .left), sym (v .is-valid .ensures) ∙ not-false (v .is-valid .result) (w .before .before .if2 .left))
+    (ap (λ (n : ℕ). outcome none n) size, put-front put (omega arith))
 
 pub save-spec : {M : Type 1} → statement M
 save-spec =

@@ -29,7 +29,7 @@ returns : tie.Need-returns
 returns c =
     let w = c .before .before in
     let a = w .before .before .before .before .args in
-    let s = a .image .now in
+    let s = a .buffer .now in
     ap (λ (part : List ℕ). take (a .at) s ++ (part ++ drop (length s - a .at) (drop (a .at) s))) (w .copy .ensures .1) ∙
     copied-part s (a .source .now) (a .at) (omega arith)
 

@@ -2,8 +2,9 @@
 -- Assumes nothing.
 use mathlib.Core.Path.{refl}
 use borrow.Author.Needs.{needs}
-use Rattle.cdi_image.specs.Image.{mark, version}
-use Rattle.cdi_image.proofs.Puts.{Put, put-behind}
+use Rattle.cdi_image.specs.Image.{mark, version1}
+use Rattle.cdi_image.specs.Put.{Put}
+use Rattle.cdi_image.proofs.Puts.{put-behind}
 use Rattle.cdi_image.proofs.write.write_head.Statement.{statement}
 use Rattle.cdi_image.proofs.write.write_head.Tie as tie
 
@@ -29,8 +30,8 @@ returns c =
     let s = w₁ .before .before .before .before .args .image .now in
     let t = w₁ .put .last .1 .1 .0 in
     let first : Put s 0 mark 3 t = record { ends = refl; stored = w₁ .put .ensures } in
-    let second : Put t 3 version 5 (w₂ .put2 .last .1 .1 .0) = record { ends = refl; stored = w₂ .put2 .ensures } in
-    put-behind first second .stored
+    let second : Put t 3 version1 5 (w₂ .put2 .last .1 .1 .0) = record { ends = refl; stored = w₂ .put2 .ensures } in
+    put-behind first second
 
 pub write-head-spec : {M : Type 1} → statement M
 write-head-spec =

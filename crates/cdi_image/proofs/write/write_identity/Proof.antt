@@ -4,13 +4,14 @@ use mathlib.Core.Path.{_≡_}
 use native.Mathlib.Omega.{arith}
 use borrow.Author.Needs.{needs}
 use lib.ListN.{length}
-use Rattle.cdi_image.proofs.Puts.{Put, put-behind}
+use Rattle.cdi_image.specs.Put.{Put}
+use Rattle.cdi_image.proofs.Puts.{put-behind}
 use Rattle.cdi_image.proofs.write.write_identity.Statement.{statement}
 use Rattle.cdi_image.proofs.write.write_identity.Tie as tie
 
--- a state's arrays are as long as their types say
+-- the arrays are as long as their types say
 lengths : (z : tie.Start) →
-    let q = z .args .state in
+    let q = z .args .stored in
     (length (q .name) ≡ 17) × (length (q .firmware) ≡ 3) × (length (q .serial) ≡ 4) × (length (q .address) ≡ 4)
 lengths z = (search needs, search needs, search needs, search needs)
 
@@ -62,17 +63,16 @@ returns c =
     let w₂ = w₃ .before .before .before .before .before in
     let w₁ = w₂ .before .before .before .before .before in
     let z = w₁ .before .before .before .before .before .before .before .before in
-    let q = z .args .state in
+    let q = z .args .stored in
     let t₁ = w₁ .put .last .1 .1 .0 in
     let t₂ = w₂ .put2 .last .1 .1 .0 in
     let t₃ = w₃ .put3 .last .1 .1 .0 in
     let t₄ = w₄ .put4 .last .1 .1 .0 in
-    let name : Put (z .args .image .now) 5 (q .name) 22 t₁ = record { ends = omega (arith, lengths z .0); stored = w₁ .put .ensures } in
-    let firmware : Put t₁ 22 (q .firmware) 25 t₂ = record { ends = omega (arith, lengths z .1); stored = w₂ .put2 .ensures } in
-    let serial : Put t₂ 25 (q .serial) 29 t₃ = record { ends = omega (arith, lengths z .2); stored = w₃ .put3 .ensures } in
-    let address : Put t₃ 29 (q .address) 33 t₄ = record { ends = omega (arith, lengths z .3); stored = w₄ .put4 .ensures } in
-    let all = put-behind (put-behind (put-behind name firmware) serial) address in
-    (omega (arith, all .ends), all .stored)
+    let name : Put (z .args .contents .now) 0 (q .name) 17 t₁ = record { ends = omega (arith, lengths z .0); stored = w₁ .put .ensures } in
+    let firmware : Put t₁ 17 (q .firmware) 20 t₂ = record { ends = omega (arith, lengths z .1); stored = w₂ .put2 .ensures } in
+    let serial : Put t₂ 20 (q .serial) 24 t₃ = record { ends = omega (arith, lengths z .2); stored = w₃ .put3 .ensures } in
+    let address : Put t₃ 24 (q .address) 28 t₄ = record { ends = omega (arith, lengths z .3); stored = w₄ .put4 .ensures } in
+    put-behind (put-behind (put-behind name firmware) serial) address
 
 pub write-identity-spec : {M : Type 1} → statement M
 write-identity-spec =

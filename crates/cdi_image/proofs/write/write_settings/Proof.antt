@@ -5,11 +5,12 @@ use mathlib.Core.Path.{_≡_, refl, ap, _∙_}
 use mathlib.Core.List.{List}
 use native.Mathlib.Omega.{arith}
 use borrow.Author.Needs.{needs}
-use lib.ListN.{length, getD}
+use lib.ListN.{length}
 use lib.Seq.{sets}
-use Rattle.cdi_state.specs.State.{inputBytes, noInput}
-use Rattle.cdi_image.specs.Parts.{plainPart}
-use Rattle.cdi_image.proofs.Puts.{Put, put-behind}
+use Rattle.cdi_state.specs.State.{inputBytes, inputAt}
+use Rattle.cdi_image.specs.Image.{settings11To15}
+use Rattle.cdi_image.specs.Put.{Put}
+use Rattle.cdi_image.proofs.Puts.{put-behind}
 use Rattle.cdi_image.proofs.write.write_settings.Statement.{statement}
 use Rattle.cdi_image.proofs.write.write_settings.Tie as tie
 
@@ -64,21 +65,20 @@ returns c =
     let t₁ = w₁ .put .last .1 .1 .0 in
     let t₂ = w₂ .put2 .last .1 .1 .0 in
     let t₃ = w₃ .put3 .last .1 .1 .0 in
-    let row₁ = inputBytes (getD (a .t1 .«analog_inputs») 0 noInput) in
-    let row₂ = inputBytes (getD (a .t1 .«analog_inputs») 1 noInput) in
+    let row₁ = inputBytes (inputAt (a .t1) 1) in
+    let row₂ = inputBytes (inputAt (a .t1) 2) in
     let made₁ : b₁ .bytes .result ≡ row₁ = b₁ .bytes .ensures in
     let made₂ : b₂ .bytes2 .result ≡ row₂ = b₂ .bytes2 .ensures in
-    let single : Put (a .image .now) 33 (plainPart (a .t1)) 38 t₁ = record { ends = refl; stored = w₁ .put .ensures } in
-    let input₁ : Put t₁ 38 row₁ 43 t₂ = record {
+    let single : Put (a .contents .now) 28 (settings11To15 (a .t1)) 33 t₁ = record { ends = refl; stored = w₁ .put .ensures } in
+    let input₁ : Put t₁ 33 row₁ 38 t₂ = record {
       ends = omega (arith, ap length made₁, long₁ b₁);
-      stored = w₂ .put2 .ensures ∙ ap (λ (q : List ℕ). sets t₁ 38 q) made₁;
+      stored = w₂ .put2 .ensures ∙ ap (λ (q : List ℕ). sets t₁ 33 q) made₁;
     } in
-    let input₂ : Put t₂ 43 row₂ 48 t₃ = record {
+    let input₂ : Put t₂ 38 row₂ 43 t₃ = record {
       ends = omega (arith, ap length made₂, long₂ b₂);
-      stored = w₃ .put3 .ensures ∙ ap (λ (q : List ℕ). sets t₂ 43 q) made₂;
+      stored = w₃ .put3 .ensures ∙ ap (λ (q : List ℕ). sets t₂ 38 q) made₂;
     } in
-    let all = put-behind (put-behind single input₁) input₂ in
-    (omega (arith, all .ends), all .stored)
+    put-behind (put-behind single input₁) input₂
 
 pub write-settings-spec : {M : Type 1} → statement M
 write-settings-spec =

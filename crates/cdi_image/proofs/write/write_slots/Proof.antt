@@ -12,7 +12,8 @@ use Rattle.cdi_state.specs.declared.Slot.{Slot}
 use Rattle.cdi_state.specs.State.{slotBytes, noSlot}
 use Rattle.cdi_state.proofs.Arrays.{unmapped}
 use Rattle.cdi_image.proofs.Cells.{flatMap-next}
-use Rattle.cdi_image.proofs.Puts.{Put, put-behind}
+use Rattle.cdi_image.specs.Put.{Put}
+use Rattle.cdi_image.proofs.Puts.{put-behind}
 use Rattle.cdi_image.proofs.write.write_slots.Statement.{statement}
 use Rattle.cdi_image.proofs.write.write_slots.Tie as tie
 
@@ -21,11 +22,11 @@ abbrev rows : ℕ → List Slot → List ℕ
 rows i slots = flatMap slotBytes (take i slots)
 
 abbrev Inv-loop : tie.InvT-loop
-Inv-loop image₀ slots i₀ image i =
-    (i ≤ 40) × (length image ≡ length image₀) × Put image₀ 48 (rows i slots) (48 + 5 * i) image
+Inv-loop contents₀ slots i₀ contents i =
+    (i ≤ 40) × (length contents ≡ length contents₀) × Put contents₀ 43 (rows i slots) (43 + 5 * i) contents
 
 abbrev μ-loop : tie.MeasureT-loop
-μ-loop image₀ slots i₀ image i = 40 - i
+μ-loop contents₀ slots i₀ contents i = 40 - i
 
 loop-holds : tie.Need-loop-holds Inv-loop μ-loop
 unfolding flatMap
@@ -69,11 +70,11 @@ loop-again c =
     let l = b .before .before .before in
     let a = l .before .before .args in
     let i = l .loop .i in
-    let s = l .loop .image in
+    let s = l .loop .contents in
     let t = w .put .last .1 .1 .0 in
-    let row : Put s (48 + 5 * i) (slotBytes (getD (a .t1) i noSlot)) (48 + 5 * suc i) t = record {
+    let row : Put s (43 + 5 * i) (slotBytes (getD (a .t1) i noSlot)) (43 + 5 * suc i) t = record {
       ends = omega (arith, ap length (b .bytes .ensures), long b);
-      stored = w .put .ensures ∙ ap (λ (q : List ℕ). sets s (48 + 5 * i) q) (b .bytes .ensures);
+      stored = w .put .ensures ∙ ap (λ (q : List ℕ). sets s (43 + 5 * i) q) (b .bytes .ensures);
     } in
     (search needs, search needs, rw (add-one, flatMap-next slotBytes (a .t1) noSlot i (search needs)) (put-behind (l .loop .inv .2) row))
 
@@ -86,7 +87,10 @@ returns c =
     let a = c .before .before .before .args in
     let forty : length (a .t1) ≡ 40 = search unmapped in
     let all = ap (flatMap slotBytes) (take-all (l .i) (a .t1) (omega (arith, forty, c .loop-test .left))) in
-    (omega (arith, ap length all, l .inv .2 .ends), l .inv .2 .stored ∙ ap (λ (q : List ℕ). sets (a .image .now) 48 q) all)
+    record {
+      ends = omega (arith, ap length all, l .inv .2 .ends);
+      stored = l .inv .2 .stored ∙ ap (λ (q : List ℕ). sets (a .contents .now) 43 q) all;
+    }
 
 pub write-slots-spec : {M : Type 1} → statement M
 write-slots-spec =

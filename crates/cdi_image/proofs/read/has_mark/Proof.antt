@@ -4,8 +4,8 @@ use mathlib.Core.Path.{refl}
 use mathlib.Core.Bool.{and-true, and-assoc}
 use borrow.Author.Needs.{needs}
 use Rattle.logic.proofs.Places.{part-is-bytes}
-use Rattle.cdi_image_load.proofs.read.has_mark.Statement.{statement}
-use Rattle.cdi_image_load.proofs.read.has_mark.Tie as tie
+use Rattle.cdi_image.proofs.read.has_mark.Statement.{statement}
+use Rattle.cdi_image.proofs.read.has_mark.Tie as tie
 
 shared-slice-read-result : tie.Need-shared-slice-read-result
 shared-slice-read-result c = search needs

@@ -1,7 +1,7 @@
 -- Each row makes its slot, so the slots made and those of the rows left are always all the slots.
 -- Assumes nothing.
 use Prim.Native.Nat.{ℕ, suc, _+_, _-_, _*_, _<_, _≤_}
-use mathlib.Core.Path.{_≡_, refl, sym, _∙_}
+use mathlib.Core.Path.{_≡_, refl, sym, ap, _∙_}
 use mathlib.Core.List.{List, _++_, append-nil}
 use native.Mathlib.Numerals.{add-one}
 use native.Mathlib.Omega.{arith}
@@ -10,9 +10,9 @@ use lib.ListN.{length, take, drop, set, length-set}
 use lib.Seq.{take-suc-set, take-all, drop-drop, append-snoc}
 use Rattle.cdi_state.specs.State.{slotIn}
 use Rattle.cdi_state.specs.declared.Slot.{Slot}
 use Rattle.cdi_image.specs.Image.{slotsIn}
-use Rattle.cdi_image_load.proofs.read.slots_in.Statement.{statement}
-use Rattle.cdi_image_load.proofs.read.slots_in.Tie as tie
+use Rattle.cdi_image.proofs.read.slots_in.Statement.{statement}
+use Rattle.cdi_image.proofs.read.slots_in.Tie as tie
 
 one-slot-more : (slots : List Slot) (rows : List ℕ) (i : ℕ) → i < 40 → i < length slots →
     take i slots ++ slotsIn (40 - i) (drop (5 * i) rows) ≡
@@ -38,20 +38,23 @@ loop-holds c = (omega arith, refl, refl)
 mul-start : tie.Need-mul-start Inv-loop μ-loop
 mul-start c = search needs
 
-add-slot-in : tie.Need-add-slot-in Inv-loop μ-loop
-add-slot-in c = search needs
+add-row-in : tie.Need-add-row-in Inv-loop μ-loop
+add-row-in c = search needs
 
-sub-slot-in : tie.Need-sub-slot-in Inv-loop μ-loop
-sub-slot-in c = search needs
+sub-row-in : tie.Need-sub-row-in Inv-loop μ-loop
+sub-row-in c = search needs
 
-part-slot-in-start : tie.Need-part-slot-in-start Inv-loop μ-loop
-part-slot-in-start c = search needs
+part-row-in-start : tie.Need-part-row-in-start Inv-loop μ-loop
+part-row-in-start c = search needs
 
-part-slot-in-end : tie.Need-part-slot-in-end Inv-loop μ-loop
-part-slot-in-end c = search needs
+part-row-in-end : tie.Need-part-row-in-end Inv-loop μ-loop
+part-row-in-end c = search needs
 
-slot-in-requires : tie.Need-slot-in-requires Inv-loop μ-loop
-slot-in-requires c κs = search needs
+row-in-requires : tie.Need-row-in-requires Inv-loop μ-loop
+row-in-requires c κs = search needs
+
+from-bytes-requires : tie.Need-from-bytes-requires Inv-loop μ-loop
+from-bytes-requires c κs = search needs
 
 mul-slots : tie.Need-mul-slots Inv-loop μ-loop
 mul-slots c = search needs
@@ -67,14 +70,17 @@ loop-less c = search needs
 
 loop-again : tie.Need-loop-again Inv-loop μ-loop
 loop-again c =
-    let l = c .before .before .before in
+    let l = c .before .before .before .before in
     let i = l .loop .i in
     let slots = l .loop .slots in
     let rows = l .before .before .args .rows .now in
-    let row : 5 * i + 5 - 5 * i ≡ 5 = omega arith in (
+    let row : 5 * i + 5 - 5 * i ≡ 5 = omega arith in
+    let made : c .from-bytes .result ≡ slotIn (take 5 (drop (5 * i) rows)) =
+    c .from-bytes .ensures ∙ ap slotIn (c .before .row-in .ensures ∙ ap (λ (n : ℕ). take n (drop (5 * i) rows)) row)
+    in (
       search needs,
-      length-set slots i (c .slot-in .result) ∙ l .loop .inv .1,
-      rw (c .slot-in .ensures, row) (l .loop .inv .2 ∙ one-slot-more slots rows i (search needs) (search needs)),
+      length-set slots i (c .from-bytes .result) ∙ l .loop .inv .1,
+      rw made (l .loop .inv .2 ∙ one-slot-more slots rows i (search needs) (search needs)),
     )
 
 returns : tie.Need-returns Inv-loop μ-loop
@@ -92,11 +98,12 @@ slots-in-spec =
     μ-loop
     loop-holds
     mul-start
-    add-slot-in
-    sub-slot-in
-    part-slot-in-start
-    part-slot-in-end
-    slot-in-requires
+    add-row-in
+    sub-row-in
+    part-row-in-start
+    part-row-in-end
+    row-in-requires
+    from-bytes-requires
     mul-slots
     array-set-from-slots
     add-i

@@ -1,9 +1,9 @@
--- The first four bytes of a row are the address, each at its own place, and the fifth is the mask.
+-- Five bytes, each at its own place, are the list of five.
 -- Assumes nothing.
 use borrow.Author.Needs.{needs}
-use Rattle.logic.proofs.Places.{part-is-bytes}
-use Rattle.cdi_image_load.proofs.read.slot_in.Statement.{statement}
-use Rattle.cdi_image_load.proofs.read.slot_in.Tie as tie
+use Rattle.logic.proofs.Places.{rest-is-bytes}
+use Rattle.cdi_image.proofs.read.row_in.Statement.{statement}
+use Rattle.cdi_image.proofs.read.row_in.Tie as tie
 
 shared-slice-read-t3 : tie.Need-shared-slice-read-t3
 shared-slice-read-t3 c = search needs
@@ -17,21 +17,21 @@ shared-slice-read-t7 c = search needs
 shared-slice-read-t9 : tie.Need-shared-slice-read-t9
 shared-slice-read-t9 c = search needs
 
-shared-slice-read-t12 : tie.Need-shared-slice-read-t12
-shared-slice-read-t12 c = search needs
+shared-slice-read-t11 : tie.Need-shared-slice-read-t11
+shared-slice-read-t11 c = search needs
 
 returns : tie.Need-returns
 returns c =
-    let row = c .before .before .before .before .before .args .row .now in
-    rw (part-is-bytes 0 4 row (search needs))
+    let bytes = c .before .before .before .before .before .args .bytes .now in
+    rest-is-bytes 0 5 bytes (search needs)
 
-pub slot-in-spec : {M : Type 1} → statement M
-slot-in-spec =
+pub row-in-spec : {M : Type 1} → statement M
+row-in-spec =
     tie.close
     (tie.spec
     shared-slice-read-t3
     shared-slice-read-t5
     shared-slice-read-t7
     shared-slice-read-t9
-    shared-slice-read-t12
+    shared-slice-read-t11
     returns)

@@ -4,8 +4,8 @@ use mathlib.Core.Path.{refl}
 use mathlib.Core.Bool.{and-true}
 use borrow.Author.Needs.{needs}
 use Rattle.logic.proofs.Places.{part-is-bytes}
-use Rattle.cdi_image_load.proofs.read.has_version.Statement.{statement}
-use Rattle.cdi_image_load.proofs.read.has_version.Tie as tie
+use Rattle.cdi_image.proofs.read.has_version_1.Statement.{statement}
+use Rattle.cdi_image.proofs.read.has_version_1.Tie as tie
 
 shared-slice-read-result : tie.Need-shared-slice-read-result
 shared-slice-read-result c = search needs
@@ -27,8 +27,8 @@ returns c =
     let image = c .before .before .args .image .now in
     rw (part-is-bytes 3 2 image (search needs), and-true) refl
 
-pub has-version-spec : {M : Type 1} → statement M
-has-version-spec =
+pub has-version-1-spec : {M : Type 1} → statement M
+has-version-1-spec =
     tie.close
     (tie.spec
     shared-slice-read-result

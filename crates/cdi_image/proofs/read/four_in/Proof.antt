@@ -2,8 +2,8 @@
 -- Assumes nothing.
 use borrow.Author.Needs.{needs}
 use Rattle.logic.proofs.Places.{rest-is-bytes}
-use Rattle.cdi_image_load.proofs.read.four_in.Statement.{statement}
-use Rattle.cdi_image_load.proofs.read.four_in.Tie as tie
+use Rattle.cdi_image.proofs.read.four_in.Statement.{statement}
+use Rattle.cdi_image.proofs.read.four_in.Tie as tie
 
 shared-slice-read-t3 : tie.Need-shared-slice-read-t3
 shared-slice-read-t3 c = search needs

@@ -7,8 +7,8 @@ use borrow.Author.Needs.{needs}
 use lib.ListN.{length, replicate}
 use lib.Seq.{take-length}
 use Rattle.logic.proofs.Rest.{nothing-left}
-use Rattle.cdi_image_load.proofs.read.name_in.Statement.{statement}
-use Rattle.cdi_image_load.proofs.read.name_in.Tie as tie
+use Rattle.cdi_image.proofs.read.name_in.Statement.{statement}
+use Rattle.cdi_image.proofs.read.name_in.Tie as tie
 
 slice-aggregate-copy : tie.Need-slice-aggregate-copy
 slice-aggregate-copy c = search needs

@@ -1,11 +1,10 @@
--- Each cell that an image keeps is read from its own place, and no other is touched.
+-- Each part is read from its own place.
 -- Assumes nothing.
 use mathlib.Core.Path.{_≡_}
+use Rattle.cdi_image.specs.Image.{between, slotsIn, storedIn}
 use borrow.Author.Needs.{needs}
-use Rattle.logic.specs.Lists.{part}
-use Rattle.cdi_image.specs.Image.{imageName, imageSlots}
-use Rattle.cdi_image_load.proofs.read.with_image.Statement.{statement}
-use Rattle.cdi_image_load.proofs.read.with_image.Tie as tie
+use Rattle.cdi_image.proofs.read.stored_in.Statement.{statement}
+use Rattle.cdi_image.proofs.read.stored_in.Tie as tie
 
 sub-name-in : tie.Need-sub-name-in
 sub-name-in c = search needs
@@ -71,22 +70,23 @@ slots-in-requires : tie.Need-slots-in-requires
 slots-in-requires c κs = search needs
 
 returns : tie.Need-returns
+unfolding storedIn
 returns c =
     let settings = c .before .before in
     let address = settings .before in
     let serial = address .before .before in
     let firmware = serial .before .before in
     let name = firmware .before .before in
-    let image = name .before .before .before .args .image .now in
-    let name-read : name .name-in .result ≡ imageName image = name .name-in .ensures in
-    let firmware-read : firmware .three-in .result ≡ part 22 3 image = firmware .three-in .ensures in
-    let serial-read : serial .four-in .result ≡ part 25 4 image = serial .four-in .ensures in
-    let address-read : address .four-in2 .result ≡ part 29 4 image = address .four-in2 .ensures in
-    let slots-read : c .slots-in .result ≡ imageSlots image = c .slots-in .ensures in
+    let l = name .before .before .before .args .contents .now in
+    let name-read : name .name-in .result ≡ between 0 17 l = name .name-in .ensures in
+    let firmware-read : firmware .three-in .result ≡ between 17 20 l = firmware .three-in .ensures in
+    let serial-read : serial .four-in .result ≡ between 20 24 l = serial .four-in .ensures in
+    let address-read : address .four-in2 .result ≡ between 24 28 l = address .four-in2 .ensures in
+    let slots-read : c .slots-in .result ≡ slotsIn 40 (between 43 243 l) = c .slots-in .ensures in
     rw (name-read, firmware-read, serial-read, address-read, settings .settings-in .ensures, slots-read)
 
-pub with-image-spec : {M : Type 1} → statement M
-with-image-spec =
+pub stored-in-spec : {M : Type 1} → statement M
+stored-in-spec =
     tie.close
     (tie.spec
     sub-name-in
