@@ -107,8 +107,9 @@ pub fn load(state: ModuleState, image: &[u8]) -> Loaded
         working,
         live,
     };
+    let after = cdi_store::powered_up(replaced);
     Loaded {
-        state: cdi_store::powered_up(replaced),
+        state: after,
         refusal: NONE,
     }
 }
