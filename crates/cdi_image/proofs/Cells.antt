@@ -9,7 +9,6 @@ use native.Mathlib.Omega.{arith}
 use lib.ListN.{length, getD, take}
 use lib.Seq.{take-suc, take-all}
 use Rattle.logic.specs.Lists.{below}
-use Rattle.cdi_state.specs.declared.Stored.{Stored}
 use Rattle.cdi_state.specs.declared.ModuleState.{ModuleState}
 use Rattle.cdi_state.specs.State.{inputBytes, slotBytes, inputAt, noSlot}
 use Rattle.cdi_store.specs.Store.{stateAtPowerUp}

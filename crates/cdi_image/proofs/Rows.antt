@@ -69,8 +69,3 @@ slots-written (suc n) rows h =
     slots-written n (drop 5 rows) (omega (arith, length-drop 5 rows, h))
     in
     rw (one, more) (take-append-drop 5 rows)
-
-pub slot-count : (n : ℕ) (rows : List ℕ) → length (slotsIn n rows) ≡ n
-unfolding slotsIn
-slot-count zero rows = refl
-slot-count (suc n) rows = ap suc (slot-count n (drop 5 rows))

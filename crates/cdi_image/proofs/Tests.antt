@@ -1,10 +1,11 @@
 -- By computation: which cells an image has, and the image of a stored part.
 -- Assumes nothing.
-use mathlib.Core.Path.{refl}
+use mathlib.Core.Path.{refl, sym}
 use mathlib.Core.List.{flatMap}
 use Rattle.cdi_model.specs.Tight.{everyCell}
 use Rattle.cdi_image.specs.Image.{contentsOf}
-use Rattle.cdi_image.specs.Laws.{KeptCells, SampleImage}
+use Rattle.cdi_image.specs.Laws.{KeptCells, SampleImage, sampleState, SampleCells}
+use Rattle.cdi_image.proofs.Cells.{contents-are-cells}
 
 pub kept-cells : KeptCells
 unfolding everyCell
@@ -13,3 +14,7 @@ kept-cells = record { all-kept = refl; no-others = refl; each-once = refl }
 pub sample-image : SampleImage
 unfolding contentsOf flatMap
 sample-image = refl
+
+pub sample-cells : SampleCells
+unfolding contentsOf flatMap
+sample-cells = sym (contents-are-cells sampleState refl)

@@ -11,14 +11,14 @@ use Rattle.refusal.specs.Refusal.{accepted}
 use Rattle.cdi_item.specs.Items.{inputCount, slotCount}
 use Rattle.cdi_state.specs.declared.Stored.{Stored}
 use Rattle.cdi_state.specs.declared.ModuleState.{ModuleState}
-use Rattle.cdi_state.specs.State.{StoredLengths}
+use Rattle.cdi_state.specs.State.{factoryState, StoredLengths}
 use Rattle.cdi_valid.specs.Valid.{isValid}
 use Rattle.cdi_model.specs.Cells.{nv, working, lineMask, latchMask, txPower, controlSource, messageSelect, interruptMask, setting, input, slot, address, Single, name, firmware, serial, lines, rssi, ladj, events, flags, hardwarePower, hardwareLineMask, hardwareLatchMask, Cell, copyOf, single}
 use Rattle.cdi_model.specs.Table.{powerUpStores}
 use Rattle.cdi_model.specs.Model.{powerUpGives}
 use Rattle.cdi_model.specs.Tight.{everyCell, isIn, allApart}
 use Rattle.cdi_module.specs.Machine.{cells}
-use Rattle.cdi_image.specs.Image.{contentsOf, imageOf, imageV1Size, saved, loaded}
+use Rattle.cdi_image.specs.Image.{contentsOf, imageOf, imageV1Size, saved, withStored, loaded}
 
 -- ---- the cells of an image
 -- 01's N cells and the slots, in the order of their items
@@ -78,14 +78,22 @@ sampleStored = record {
   slots = map (λ i. record { address = i ∷ 0x82 ∷ 0x83 ∷ 0x84 ∷ []; mask = 0x85 }) (below slotCount []);
 }
 
--- its image: the mark and the version; items 01, 02, 03 and 10; 11 to 15; both rows of 16; the slots; 25
-abbrev pub SampleImage : Type 0
-SampleImage =
-    imageOf sampleStored ≡
-    0x53 ∷ 0x57 ∷ 0x42 ∷ 0x00 ∷ 0x01 ∷
+-- its contents: items 01, 02, 03 and 10; 11 to 15; both rows of 16; the slots; 25
+abbrev sampleContents : List ℕ
+sampleContents =
     replicate 16 0x11 ++ 0x12 ∷ 0x21 ∷ 0x22 ∷ 0x23 ∷ 0x31 ∷ 0x32 ∷ 0x33 ∷ 0x34 ∷ 0x41 ∷ 0x42 ∷ 0x43 ∷ 0x44 ∷
     0x51 ∷ 0x52 ∷ 0x53 ∷ 0x54 ∷ 0x55 ∷ 0x61 ∷ 0x62 ∷ 0x63 ∷ 0x64 ∷ 0x65 ∷ 0x71 ∷ 0x72 ∷ 0x73 ∷ 0x74 ∷ 0x75 ∷
     flatMap (λ i. i ∷ 0x82 ∷ 0x83 ∷ 0x84 ∷ 0x85 ∷ []) (below slotCount []) ++ 0x56 ∷ []
+
+-- its image, and what the image's cells hold in a state that has it
+abbrev pub SampleImage : Type 0
+SampleImage = imageOf sampleStored ≡ 0x53 ∷ 0x57 ∷ 0x42 ∷ 0x00 ∷ 0x01 ∷ sampleContents
+
+abbrev pub sampleState : ModuleState
+sampleState = withStored factoryState sampleStored
+
+abbrev pub SampleCells : Type 0
+SampleCells = flatMap (cells sampleState) imageCells ≡ sampleContents
 
 -- ---- Save and Load
 -- what Save writes Load takes, on any state, and gives back the same cells. The lengths are those that every state of a program has

@@ -6,8 +6,9 @@ mod write;
 ghost use mathlib.Core.Path.{_≡_};
 ghost use lib.ListN.{length};
 ghost use Rattle.refusal.specs.Refusal.{outcomeOf, bufferAfter};
-ghost use Rattle.cdi_image.specs.Image.{saved, loaded, loadedAs};
+ghost use Rattle.cdi_image.specs.Image.{saved, storedLoaded, loaded, loadedAs};
 use cdi_state::ModuleState;
+use cdi_state::Stored;
 use refusal::IMAGE_LENGTH;
 use refusal::IMAGE_MARK;
 use refusal::IMAGE_VERSION;
@@ -71,6 +72,30 @@ pub struct Loaded {
     pub refusal: u8,
 }
 
+// The state with another stored part, and then powered up. That part alone has to be valid; a refusal leaves the state.
+fn load_stored(state: ModuleState, stored: Stored) -> Loaded
+    ensures { λ r. ⌜ r ≡ loadedAs state (storedLoaded state stored) ⌝ }
+{
+    if !cdi_valid::is_valid_stored(stored) {
+        return Loaded {
+            state,
+            refusal: INVALID,
+        };
+    }
+    let working = state.working;
+    let live = state.live;
+    let replaced = ModuleState {
+        stored,
+        working,
+        live,
+    };
+    let after = cdi_store::powered_up(replaced);
+    Loaded {
+        state: after,
+        refusal: NONE,
+    }
+}
+
 // The state with what an image holds, and then powered up. The state before may be invalid; a refusal leaves it.
 pub fn load(state: ModuleState, image: &[u8]) -> Loaded
     ensures { λ r. ⌜ r ≡ loadedAs state (loaded state (now (image .entry))) ⌝ }
@@ -93,23 +118,5 @@ pub fn load(state: ModuleState, image: &[u8]) -> Loaded
             refusal: IMAGE_VERSION,
         };
     }
-    let stored = read::stored_in(&image[HEAD_SIZE..]);
-    if !cdi_valid::is_valid_stored(stored) {
-        return Loaded {
-            state,
-            refusal: INVALID,
-        };
-    }
-    let working = state.working;
-    let live = state.live;
-    let replaced = ModuleState {
-        stored,
-        working,
-        live,
-    };
-    let after = cdi_store::powered_up(replaced);
-    Loaded {
-        state: after,
-        refusal: NONE,
-    }
+    load_stored(state, read::stored_in(&image[HEAD_SIZE..]))
 }

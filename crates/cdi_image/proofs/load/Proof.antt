@@ -1,20 +1,15 @@
--- The tests stand in the definition's order, and what is read behind the head is the stored part that is asked about and then loaded.
+-- The tests stand in the definition's order, and what is read behind the head is the stored part that is loaded.
 -- Assumes nothing.
 use mathlib.Core.Path.{_≡_, refl, sym, ap, _∙_}
-use mathlib.Core.Bool.{Bool, true}
+use mathlib.Core.Bool.{true}
 use borrow.Author.Needs.{needs}
 use borrow.Author.Tests.{eq-eqb, ne-eqb, not-true, not-false}
 use lib.Dec.{eqb}
 use lib.ListN.{length, drop}
 use Rattle.logic.specs.Lists.{sameBytes, part}
 use Rattle.logic.proofs.Written.{part-rest}
-use Rattle.refusal.specs.Refusal.{accepted}
 use Rattle.cdi_state.specs.declared.Stored.{Stored}
-use Rattle.cdi_state.specs.declared.ModuleState.{ModuleState}
-use Rattle.cdi_valid.specs.Valid.{validStored}
-use Rattle.cdi_store.specs.Store.{stateAtPowerUp}
-use Rattle.cdi_image.specs.declared.Loaded.{Loaded}
-use Rattle.cdi_image.specs.Image.{mark, headSize, imageV1Size, storedIn, withStored, storedLoaded, loaded, loadedAs}
+use Rattle.cdi_image.specs.Image.{mark, headSize, imageV1Size, storedIn, storedLoaded, loaded, loadedAs}
 use Rattle.cdi_image.proofs.load.Statement.{statement}
 use Rattle.cdi_image.proofs.load.Tie as tie
 
@@ -56,8 +51,8 @@ part-stored-in-end c = search needs
 stored-in-requires : tie.Need-stored-in-requires
 stored-in-requires c κs = search needs
 
-is-valid-stored-requires : tie.Need-is-valid-stored-requires
-is-valid-stored-requires c κs = search needs
+load-stored-requires : tie.Need-load-stored-requires
+load-stored-requires c κs = search needs
 
 -- an image of the right length, mark and version: what is left of the definition
 contents-left : (c : tie.Else3) →
@@ -68,34 +63,15 @@ contents-left c =
     let marked = c .before .before in
     rw (is-long (marked .before .before), is-marked marked, sym (c .before .has-version-1 .ensures) ∙ not-false _ (c .if3 .left)) refl
 
--- what is read, and whether it is valid
-read : (c : tie.After-stored-in) →
-    let a = c .before .before .before .before .before .before .before .before .args in
-    c .stored-in .result ≡ storedIn (drop headSize (a .image .now))
-read c =
-    let a = c .before .before .before .before .before .before .before .before .args in
-    c .stored-in .ensures ∙ ap storedIn (part-rest headSize (a .image .now))
-
-asked : (c : tie.After-is-valid-stored) →
-    let a = c .before .before .before .before .before .before .before .before .before .args in
-    validStored (storedIn (drop headSize (a .image .now))) ≡ c .is-valid-stored .result
-asked c = ap validStored (sym (read (c .before))) ∙ sym (c .is-valid-stored .ensures)
-
 returns-4 : tie.Need-returns-4
-returns-4 c = rw (contents-left (c .before .before .before .before), asked (c .before) ∙ not-true _ (c .if4 .taken)) refl
-
-powered-up-requires : tie.Need-powered-up-requires
-powered-up-requires c κs = search needs
-
-returns-5 : tie.Need-returns-5
-returns-5 c =
-    let valid = c .before .before .before in
-    let asked-of = valid .before in
-    let s = asked-of .before .before .before .before .before .before .before .before .before .args .state in
-    let loads : Stored → Loaded = λ t. loadedAs s (accepted (stateAtPowerUp (withStored s t))) in
-    ap (λ (t : ModuleState). loadedAs s (accepted t)) (c .powered-up .ensures) ∙
-    ap loads (read (asked-of .before)) ∙
-    rw (contents-left (asked-of .before .before .before), asked asked-of ∙ not-false _ (valid .if4 .left))
+returns-4 c =
+    let read = c .before in
+    let head = read .before .before in
+    let a = head .before .before .before .before .before .before .args in
+    let behind = part-rest headSize (a .image .now) in
+    c .load-stored .ensures ∙
+    ap (λ (t : Stored). loadedAs (a .state) (storedLoaded (a .state) t)) (read .stored-in .ensures ∙ ap storedIn behind) ∙
+    ap (loadedAs (a .state)) (sym (contents-left head))
 
 pub load-spec : {M : Type 1} → statement M
 load-spec =
@@ -110,7 +86,5 @@ load-spec =
     part-stored-in-start
     part-stored-in-end
     stored-in-requires
-    is-valid-stored-requires
-    returns-4
-    powered-up-requires
-    returns-5)
+    load-stored-requires
+    returns-4)
