@@ -1,6 +1,6 @@
 -- `parse_item` meets its contract: the tests are the definition's, and its returns stand in the same order.
 -- Assumes nothing.
-use mathlib.Core.Path.{_≡_, _∙_, sym, ap}
+use mathlib.Core.Path.{_≡_, _∙_, sym}
 use mathlib.Core.Bool.{cond, not}
 use mathlib.Core.List.{List}
 use Prim.Native.Nat.{ℕ}
@@ -9,7 +9,7 @@ use lib.ListN.{length, getD}
 use Rattle.refusal.specs.Refusal.{Result, accepted, refused, notPermitted, wrongLength, wrongIndex}
 use Rattle.cdi_item.specs.declared.Item.{Item}
 use Rattle.cdi_command.specs.declared.Command.{Command}
-use Rattle.cdi_command.specs.Command.{parseItem, takesIndex, commandOn, valueAt, valueOf}
+use Rattle.cdi_command.specs.Command.{parseItem, takesIndex, commandOn, valueOf}
 use borrow.Author.Needs.{needs}
 use Rattle.cdi_command.proofs.on_item.parse_item.Statement.{statement}
 use Rattle.cdi_command.proofs.on_item.parse_item.Tie as tie
@@ -63,24 +63,13 @@ second t =
 returns-3 : tie.Need-returns-3
 returns-3 c = sym (second (c .before) ∙ simp (c .if3 .taken))
 
-value-start-requires : tie.Need-value-start-requires
-value-start-requires c κs = search needs
-
-value-at-requires : tie.Need-value-at-requires
-value-at-requires c κs = search needs
-
 command-on-requires : tie.Need-command-on-requires
 command-on-requires c κs = search needs
 
 returns-4 : tie.Need-returns-4
 returns-4 c =
-    let v = c .before in
-    let e = v .before .before in
-    let a = e .before .before .before .before .before .before .before .before .before .args in
-    let value : v .value-at .result ≡ valueOf (a .item) (a .payload .now) =
-    v .value-at .ensures ∙ ap (valueAt (a .payload .now)) (v .before .value-start .ensures .0)
-    in
-    simp (c .command-on .ensures, value) (sym (second (e .before) ∙ simp (e .if3 .left)))
+    let e = c .before in
+    simp (c .command-on .ensures) (sym (second (e .before) ∙ simp (e .if3 .left)))
 
 pub parse-item-spec : {M : Type 1} → statement M
 parse-item-spec =
@@ -94,7 +83,5 @@ parse-item-spec =
     byte-at-requires
     takes-index-requires
     returns-3
-    value-start-requires
-    value-at-requires
     command-on-requires
     returns-4)
