@@ -11,7 +11,7 @@ use Rattle.cdi_item.specs.Values.{acceptedValue}
 use Rattle.cdi_command.specs.Command.{select, commandOn, parseItem, isServed, isHeadLengthRight, parsePayload, validatePayload}
 use Rattle.cdi_valid.specs.Valid.{isValid}
 use Rattle.cdi_store.specs.Store.{settingStored}
-use Rattle.cdi_value.specs.Value.{settingByte, plainValue}
+use Rattle.cdi_value.specs.Value.{settingValue, plainValue}
 use Rattle.cdi_module.specs.Module.{commandIn, decide, step, resultOf}
 use Rattle.paper_examples.specs.Examples.{examples, AllHold}
 
@@ -19,6 +19,6 @@ pub example-count : length examples ≡ 16
 example-count = refl
 
 pub examples-hold : AllHold examples
-unfolding written run sumOf items itemIn itemOf acceptedValue wakes lengthAt readFrame select commandOn parseItem isServed isHeadLengthRight parsePayload validatePayload isValid settingByte plainValue settingStored commandIn decide step resultOf
+unfolding written run sumOf items itemIn itemOf acceptedValue wakes lengthAt readFrame select commandOn parseItem isServed isHeadLengthRight parsePayload validatePayload isValid settingValue plainValue settingStored commandIn decide step resultOf
 examples-hold =
     (refl, (refl, (refl, (refl, (refl, (refl, (refl, (refl, (refl, (refl, (refl, (refl, (refl, (refl, ((refl, refl), ((refl, tt), tt))))))))))))))))

@@ -11,7 +11,7 @@ use Rattle.refusal.specs.Refusal.{none, endsEarly, wrongLength, notPermitted, w
 use Rattle.analog.specs.Analog.{result, readoutOf, percentOf}
 use Rattle.cdi_command.specs.Payload.{responseBufferMin}
 use Rattle.cdi_state.specs.State.{factoryState}
-use Rattle.cdi_model.specs.Step.{Step, command, StepResult, responded}
+use Rattle.cdi_model.specs.Step.{Step, request, command, StepResult, responded}
 use Rattle.cdi_model.specs.Model.{model}
 use Rattle.cdi_module.specs.Module.{resultOf}
 use Rattle.cdi_module.specs.Machine.{machine}
@@ -39,7 +39,7 @@ asResult (response bytes) = responded none (length bytes) (written buffer bytes)
 asResult (refusal n) = responded n 0 buffer
 
 abbrev pub asStep : List ℕ → Step
-asStep block = command block buffer
+asStep block = command (request block buffer)
 
 abbrev pub PercentHolds : ℕ → Percent → Type 0
 PercentHolds readout (percent p) = percentOf readout ≡ p

@@ -12,7 +12,7 @@ use Rattle.response_text.specs.Text.{hexText, refusedText, notHexText, printed}
 use Rattle.cdi_command.specs.Command.{select, commandOn, parseItem, isServed, isHeadLengthRight, parsePayload, validatePayload}
 use Rattle.cdi_valid.specs.Valid.{isValid}
 use Rattle.cdi_store.specs.Store.{settingStored}
-use Rattle.cdi_value.specs.Value.{settingByte, plainValue}
+use Rattle.cdi_value.specs.Value.{settingValue, plainValue}
 use Rattle.cdi_module.specs.Module.{commandIn, decide, step, resultOf}
 use Rattle.replay_text.specs.Replay.{lines, linesText, replayed}
 use Rattle.replay_text.specs.Answered.{withLineFeeds}
@@ -38,7 +38,7 @@ exampleText =
     printed (refusedText 10)
 
 pub example-holds : replayed exampleInput ≡ exampleText
-unfolding written items itemIn itemOf acceptedValue wakes lengthAt readFrame select commandOn parseItem isServed isHeadLengthRight parsePayload validatePayload isValid settingByte plainValue settingStored commandIn decide step resultOf pairs hexLine hexText lines linesText withLineFeeds
+unfolding written items itemIn itemOf acceptedValue wakes lengthAt readFrame select commandOn parseItem isServed isHeadLengthRight parsePayload validatePayload isValid settingValue plainValue settingStored commandIn decide step resultOf pairs hexLine hexText lines linesText withLineFeeds
 example-holds = refl
 
 -- so it is the reference model's text
@@ -48,5 +48,5 @@ example-by-model = sym (replay-theorem exampleInput) ∙ example-holds
 -- an empty input prints nothing, a lone line feed is a blank line, and a lone space is not hex, with its line feed or without
 pub shortest-inputs : (replayed [] ≡ []) × (replayed (lineFeed ∷ []) ≡ printed (refusedText 3))
     × (replayed (space ∷ []) ≡ printed notHexText) × (replayed (space ∷ lineFeed ∷ []) ≡ printed notHexText)
-unfolding written items itemIn itemOf acceptedValue wakes lengthAt readFrame select commandOn parseItem isServed isHeadLengthRight parsePayload validatePayload isValid settingByte plainValue settingStored commandIn decide step resultOf pairs hexLine hexText lines linesText withLineFeeds
+unfolding written items itemIn itemOf acceptedValue wakes lengthAt readFrame select commandOn parseItem isServed isHeadLengthRight parsePayload validatePayload isValid settingValue plainValue settingStored commandIn decide step resultOf pairs hexLine hexText lines linesText withLineFeeds
 shortest-inputs = (refl, refl, refl, refl)

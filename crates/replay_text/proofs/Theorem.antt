@@ -41,7 +41,7 @@ machine-text s (l ∷ ls) =
     ap (λ (t : List ℕ). printed (lineText s (hexLine l)) ++ t) (machine-text (lineState s (hexLine l)) ls) ∙ first-text s (hexLine l) (map hexLine ls)
 
 factory-lengths : ArrayLengths factoryState
-factory-lengths = record { nv-inputs = refl; working-inputs = refl; slot-count = refl }
+factory-lengths = record { stored-inputs = refl; working-inputs = refl; slot-count = refl }
 
 -- the machine's results from the factory state are the model's from the factory cells
 factory-results : (xs : List Step) → results model machine factoryState xs ≡ modelResults model factoryCells xs

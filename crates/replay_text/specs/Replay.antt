@@ -9,7 +9,7 @@ use Rattle.response_text.specs.Text.{hexText, refusedText, notHexText, printed}
 use Rattle.cdi_command.specs.Payload.{responseBufferMin}
 use Rattle.cdi_state.specs.declared.ModuleState.{ModuleState}
 use Rattle.cdi_state.specs.State.{factoryState}
-use Rattle.cdi_model.specs.Step.{Step, command, StepResult, poweredUp, responded}
+use Rattle.cdi_model.specs.Step.{Step, request, command, StepResult, poweredUp, responded}
 use Rattle.cdi_module.specs.Module.{step, resultOf}
 
 -- ---- the lines of an input
@@ -26,7 +26,7 @@ lines (c ∷ chars) = cond (eqb c lineFeed) ([] ∷ lines chars) (longer c (line
 -- ---- one line
 -- the step of a block: each has a response buffer of its own
 abbrev pub blockStep : List ℕ → Step
-blockStep bytes = command bytes (replicate responseBufferMin 0)
+blockStep bytes = command (request bytes (replicate responseBufferMin 0))
 
 -- the response as hex, or `refused` and the number: a refusal has the length 0
 abbrev pub outcomeText : (refusal size : ℕ) (response : List ℕ) → List ℕ
