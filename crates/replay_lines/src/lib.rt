@@ -1,16 +1,14 @@
 // The replay program's work without its reading and printing: the lines of an input executed on a module one after the other, and
 // the text that is printed for them. Document 01, "Examples".
 ghost use mathlib.Core.Path.{_≡_};
-ghost use mathlib.Core.Bool.{true, false, cond};
+ghost use mathlib.Core.Bool.{true, false};
 ghost use Prim.Native.Nat.{_≤_};
 ghost use lib.ListN.{length};
 ghost use Rattle.logic.specs.Written.{written};
 ghost use Rattle.hex_text.specs.Hex.{Line};
 ghost use Rattle.response_text.specs.Text.{notHexText};
 ghost use Rattle.cdi_command.specs.Payload.{responseBufferMin};
-ghost use Rattle.cdi_command.specs.Command.{validatedResult};
 ghost use Rattle.cdi_valid.specs.Valid.{isValid};
-ghost use Rattle.cdi_store.specs.Store.{stateFor};
 ghost use Rattle.replay_text.specs.Replay.{outcomeText, linesText};
 ghost use Rattle.replay_text.specs.Answered.{printedMax, answered};
 ghost use Rattle.replay_lines.specs.Progress.{lineRead, ReadWithin, Prints, Answers, progress};
@@ -105,16 +103,6 @@ fn answer_line(
     }
 }
 
-// The state after a line.
-fn stored(state: ModuleState, stores: bool, validated: Validated) -> ModuleState
-    ensures { λ r. ⌜ r ≡ cond stores (stateFor state (validatedResult validated)) state ⌝ }
-{
-    if stores {
-        return cdi_store::store(state, validated);
-    }
-    state
-}
-
 // Answers the lines of `input` that a line feed ends, from the first on, over the front of `output`, each as long as there is room
 // for the longest. What stands behind the last line feed is left, and so are the bytes of `output` behind the text.
 pub fn replay_lines(state: ModuleState, input: &[u8], output: &mut [u8]) -> Progress
@@ -133,11 +121,13 @@ pub fn replay_lines(state: ModuleState, input: &[u8], output: &mut [u8]) -> Prog
         let read = line.line;
         let answer = answer_line(known, current, read, &block, &mut output[used..]);
         let validated = answer.validated;
-        current = stored(current, answer.stores, validated);
         used += answer.printed;
         start = end + 1;
         line = hex_text::read_line_at(input, start, &mut block);
         end = line.end;
+        if answer.stores {
+            current = cdi_store::store(current, validated);
+        }
     }
     Progress {
         state: current,

@@ -6,6 +6,7 @@ use mathlib.Core.Path.{_≡_}
 use mathlib.Core.List.{List}
 use lib.ListN.{length, replicate}
 use Rattle.cdi_command.specs.Payload.{responseBufferMin}
+use Rattle.cdi_model.specs.Step.{request}
 use Rattle.cdi_module.proofs.Within.{result-within}
 use Rattle.cdi_module.proofs.Told.{told-step, told-result}
 use Rattle.replay_lines.proofs.Printed.{same-result}
@@ -29,8 +30,8 @@ write-outcome-requires c κs =
     let s = k .before .before .before .before in
     let buffer : List ℕ = replicate responseBufferMin 0 in
     let kept : length (call .last .1 .1 .1 .0) ≡ responseBufferMin = search needs in
-    let told = told-result (s .args .state) (s .args .block .now) buffer _ (s .args .known) _ (s .pre .0) (call .ensures) in
-    (result-within (s .args .state) (s .args .block .now) buffer _ _ _ told, kept, s .pre .1)
+    let told = told-result (s .args .state) (request (s .args .block .now) buffer) _ (s .args .known) _ (s .pre .0) (call .ensures) in
+    (result-within (s .args .state) (request (s .args .block .now) buffer) _ _ _ told, kept, s .pre .1)
 
 same-length : tie.Need-same-length
 same-length c = search needs
@@ -43,8 +44,8 @@ returns c =
     let s = k .before .before .before .before in
     let buffer : List ℕ = replicate responseBufferMin 0 in
     record {
-      stored = told-step (s .args .state) (s .args .block .now) buffer _ (s .args .known) _ (s .pre .0) (call .ensures);
-      prints = same-result _ _ _ _ _ (told-result (s .args .state) (s .args .block .now) buffer _ (s .args .known) _ (s .pre .0) (call .ensures)) (w .write-outcome .ensures);
+      stored = told-step (s .args .state) (request (s .args .block .now) buffer) _ (s .args .known) _ (s .pre .0) (call .ensures);
+      prints = same-result _ _ _ _ _ (told-result (s .args .state) (request (s .args .block .now) buffer) _ (s .args .known) _ (s .pre .0) (call .ensures)) (w .write-outcome .ensures);
     }
 
 pub answer-block-spec : {M : Type 1} → statement M

@@ -7,7 +7,7 @@ use native.Mathlib.Omega.{arith}
 use borrow.Author.Needs.{needs}
 use borrow.Author.Tests.{leb-true, leb-false}
 use lib.ListN.{length, take, drop}
-use Rattle.hex_text.specs.Hex.{hexLine}
+use Rattle.hex_text.specs.Hex.{Line, hexLine}
 use Rattle.cdi_state.specs.State.{ArrayLengths}
 use Rattle.cdi_valid.specs.Valid.{isValid}
 use Rattle.replay_text.specs.Answered.{printedMax}
@@ -74,12 +74,9 @@ answer-line-requires c κs =
     let room = leb-true printedMax (length (loop .output) - loop .used) (t .if1 .taken) in
     (loop .inv .5, loop .inv .2 .fits, room-left (loop .output) (loop .used) printedMax room)
 
-stored-requires : tie.Need-stored-requires Inv-loop μ-loop
-stored-requires c κs = search needs
-
 add-used : tie.Need-add-used Inv-loop μ-loop
 add-used c =
-    let a = c .before .before .before .before in
+    let a = c .before .before .before in
     let t = a .before .before .before in
     let loop = t .before .before .loop in
     let s = t .before .before .before .before .before .before .before .before .before .before in
@@ -88,7 +85,7 @@ add-used c =
 
 add-start : tie.Need-add-start Inv-loop μ-loop
 add-start c =
-    let t = c .before .before .before .before .before .before .before in
+    let t = c .before .before .before .before .before .before in
     let s = t .before .before .before .before .before .before .before .before .before .before in
     omega (arith, t .before .loop-test .taken, s .good .1 .0)
 
@@ -98,33 +95,69 @@ slice-aggregate-read-line-at-2 c = search needs
 read-line-at-requires-2 : tie.Need-read-line-at-requires-2 Inv-loop μ-loop
 read-line-at-requires-2 c κs = search needs
 
+store-requires : tie.Need-store-requires Inv-loop μ-loop
+store-requires c κs = search needs
+
+-- the line that a turn answers
+abbrev line-of : tie.After-block5 Inv-loop μ-loop → Line
+line-of b =
+    let t = b .before .before .before .before .before .before .before .before .before in
+    let loop = t .before .before .loop in
+    let input = t .before .before .before .before .before .before .before .before .before .before .args .input .now in
+    hexLine (take (loop .end - loop .start) (drop (loop .start) input))
+
 loop-less : tie.Need-loop-less Inv-loop μ-loop
 loop-less c =
-    let t = c .before .before .before .before .before .before .before .before .before .before in
+    let t = c .before .before .before .before .before .before .before .before .before .before .before in
     omega (arith, t .before .loop-test .taken, t .before .before .loop .inv .2 .found)
 
 loop-again : tie.Need-loop-again Inv-loop μ-loop
 loop-again c =
-    let read = c .before .read-line-at2 in
-    let n = c .before .before .before .before in
-    let o = n .before .before in
+    let b = c .before .before in
+    let read = b .before .read-line-at2 in
+    let o = b .before .before .before .before .before in
     let a = o .before in
     let t = a .before .before .before in
     let loop = t .before .before .loop in
     let z = t .before .before .before .before .before .before .before .before .before .before in
     let input = z .args .input .now in
-    let inside = t .before .loop-test .taken in
     let room = leb-true printedMax (length (loop .output) - loop .used) (t .if1 .taken) in
-    let line = hexLine (take (loop .end - loop .start) (drop (loop .start) input)) in
     let answer = rw (loop .inv .2 .told) at (a .answer-line .ensures) in
-    let next = n .stored .ensures ∙ answer .stored in (
+    let next = c .store .ensures ∙ rw (c .before .if2 .taken) at (answer .stored) in (
       o .output .given .1 ∙ loop .inv .0,
       search needs,
       next-read input _ _ (loop .end + 1) _ _ (omega arith) (search needs) (search needs) (read .ensures .0) (read .ensures .1) (read .ensures .2),
       answered-line input (loop .start) (loop .end) (loop .inv .2 .found) _ (loop .current) _ (z .args .output .now)
-          (loop .output) _ (loop .used) _ (loop .inv .0) (loop .inv .3) inside room next (answer .prints),
-      rw next (line-lengths (loop .current) line (loop .inv .4)),
-      λ k. rw next (line-valid (loop .current) line (loop .inv .4) ∙ loop .inv .5 k),
+          (loop .output) _ (loop .used) _ (loop .inv .0) (loop .inv .3) (t .before .loop-test .taken) room next (answer .prints),
+      rw next (line-lengths (loop .current) (line-of b) (loop .inv .4)),
+      λ k. rw next (line-valid (loop .current) (line-of b) (loop .inv .4) ∙ loop .inv .5 k),
+    )
+
+loop-less-2 : tie.Need-loop-less-2 Inv-loop μ-loop
+loop-less-2 c =
+    let t = c .before .before .before .before .before .before .before .before .before .before in
+    omega (arith, t .before .loop-test .taken, t .before .before .loop .inv .2 .found)
+
+loop-again-2 : tie.Need-loop-again-2 Inv-loop μ-loop
+loop-again-2 c =
+    let b = c .before in
+    let read = b .before .read-line-at2 in
+    let o = b .before .before .before .before .before in
+    let a = o .before in
+    let t = a .before .before .before in
+    let loop = t .before .before .loop in
+    let z = t .before .before .before .before .before .before .before .before .before .before in
+    let input = z .args .input .now in
+    let room = leb-true printedMax (length (loop .output) - loop .used) (t .if1 .taken) in
+    let answer = rw (loop .inv .2 .told) at (a .answer-line .ensures) in
+    let next = rw (c .if2 .left) at (answer .stored) in (
+      o .output .given .1 ∙ loop .inv .0,
+      search needs,
+      next-read input _ _ (loop .end + 1) _ _ (omega arith) (search needs) (search needs) (read .ensures .0) (read .ensures .1) (read .ensures .2),
+      answered-line input (loop .start) (loop .end) (loop .inv .2 .found) _ (loop .current) _ (z .args .output .now)
+          (loop .output) _ (loop .used) _ (loop .inv .0) (loop .inv .3) (t .before .loop-test .taken) room next (answer .prints),
+      rw next (line-lengths (loop .current) (line-of b) (loop .inv .4)),
+      λ k. rw next (line-valid (loop .current) (line-of b) (loop .inv .4) ∙ loop .inv .5 k),
     )
 
 same-length : tie.Need-same-length Inv-loop μ-loop
@@ -170,13 +203,15 @@ replay-lines-spec =
     part-answer-line-start
     part-answer-line-end
     answer-line-requires
-    stored-requires
     add-used
     add-start
     slice-aggregate-read-line-at-2
     read-line-at-requires-2
+    store-requires
     loop-less
     loop-again
+    loop-less-2
+    loop-again-2
     same-length
     returns
     same-length-2
