@@ -1,12 +1,12 @@
-// The entries behind the C ABI; include/cdi.h declares them and tells what each reads and writes. The state stays where the controller
-// has it and is updated there (document 01, "Items", the bay controller's record): an entry copies it, calls a function by value and
-// stores the state that this gives. Where a block stores nothing, `cdi_execute` leaves the state alone.
+// The entries behind the C ABI; include/cdi.h declares them and says what each reads and writes. The state stays where the controller
+// has it and is updated there (document 01, "Items", the bay controller's record): an entry calls a function by value with it, and
+// stores the state of the result.
 ghost use mathlib.Core.Path.{_≡_};
 ghost use lib.ListN.{length};
 ghost use Rattle.refusal.specs.Refusal.{outcomeOf, bufferAfter};
 ghost use Rattle.analog.specs.Analog.{readoutOf, percentOf};
 ghost use Rattle.cdi_state.specs.State.{factoryState};
-ghost use Rattle.cdi_model.specs.Step.{command, powerUp, poweredUp, responded};
+ghost use Rattle.cdi_model.specs.Step.{request, command, powerUp, poweredUp, responded};
 ghost use Rattle.cdi_host.specs.Encode.{encodeCommand};
 ghost use Rattle.cdi_module.specs.Module.{step, resultOf};
 ghost use Rattle.cdi_image.specs.Image.{saved, loaded};
@@ -23,17 +23,15 @@ pub extern "C" fn cdi_factory() -> ModuleState
     ModuleState::factory()
 }
 
-// Executes one command block. The state is copied back only where the block stores something.
+// Executes one command block.
 #[no_mangle]
 pub extern "C" fn cdi_execute(state: &mut ModuleState, block: &[u8], response: &mut [u8]) -> Outcome
-    ensures { λ r. ⌜ (now (state .exit) ≡ step (now (state .entry)) (command (now (block .entry)) (now (response .entry))))
-        × (responded (r .refusal) (r .length) (now (response .exit)) ≡ resultOf (now (state .entry)) (command (now (block .entry)) (now (response .entry)))) ⌝ }
+    ensures { λ r. ⌜ (now (state .exit) ≡ step (now (state .entry)) (command (request (now (block .entry)) (now (response .entry)))))
+        × (responded (r .refusal) (r .length) (now (response .exit)) ≡ resultOf (now (state .entry)) (command (request (now (block .entry)) (now (response .entry))))) ⌝ }
 {
-    let decided = cdi_module::respond(*state, block, response);
-    if decided.stores {
-        *state = cdi_store::store(*state, decided.validated);
-    }
-    decided.outcome
+    let done = cdi_module::execute(*state, block, response);
+    *state = done.state;
+    done.outcome
 }
 
 // Powers the module up.

@@ -171,7 +171,12 @@ fn read_plain(state: ModuleState, settings: Settings, item: u8) -> Shown
         return show_byte(state.live.ladj);
     }
     if item == code::STATUS {
-        let bytes = status(state.working.settings, state.live.hardware, state.live.flags, state.live.events);
+        let bytes = status(
+            state.working.settings,
+            state.live.hardware,
+            state.live.flags,
+            state.live.events,
+        );
         return show(&bytes);
     }
     if item == code::EVENTS {

@@ -8,12 +8,12 @@ ghost use Prim.Native.Nat.{_+_, _<_, _≤_};
 ghost use lib.ListN.{length, take, drop};
 ghost use Rattle.replay_text.specs.Session.{keptMax, keptOf};
 ghost use Rattle.replay.specs.Program.{bufferSize, between, isEnd, charsAfter, Refilled, Turned};
-use replay_lines::PRINTED_MAX;
 use cdi_state::ModuleState;
 use hex_text::LINE_FEED;
 use hex_text::LINE_MAX;
 use libc::STDIN_FILENO;
 use libc::STDOUT_FILENO;
+use replay_lines::PRINTED_MAX;
 
 // What is kept of a line whose end is still to be read. A line with one character too many stays too long whatever follows, so
 // the rest of it need not be kept.
