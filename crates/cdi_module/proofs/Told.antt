@@ -8,12 +8,13 @@ use Rattle.logic.proofs.Choice.{by-cases}
 use Rattle.refusal.specs.Refusal.{Result, accepted, refused, none}
 use Rattle.cdi_frame.specs.Layout.{responseFrame}
 use Rattle.cdi_command.specs.declared.Command.{Command}
+use Rattle.cdi_command.specs.declared.Validated.the-variants.{Accepted}
 use Rattle.cdi_command.specs.Command.{validatedResult, validatePayload}
 use Rattle.cdi_command.specs.Payload.{responsePayload}
 use Rattle.cdi_command.proofs.Accepted.{accepted-payload}
 use Rattle.cdi_state.specs.declared.ModuleState.{ModuleState}
 use Rattle.cdi_valid.specs.Valid.{isValid}
-use Rattle.cdi_store.specs.Store.{stateFor}
+use Rattle.cdi_store.specs.Store.{stores, stateFor}
 use Rattle.cdi_store.proofs.Kept.{nothing-stored as kept}
 use Rattle.cdi_value.specs.Value.{valueRead}
 use Rattle.cdi_model.specs.Step.{Request, command, responded}
@@ -31,6 +32,18 @@ pub response-told : (s : ModuleState) (payload : List ℕ) {c : Command} {value 
 response-told s payload e f w =
     let told = rw (f, ← accepted-payload payload _ e) at w in
     ap₂ (responded none) (told .size) (told .over)
+
+-- so what is told of an accepted payload, with the value that its command reads, is what the decision has
+module _ (s : ModuleState) (payload before after : List ℕ) (c : Command) (told : Bool) (value : List ℕ) (r : Decided) where
+  pub accepted-told : validatePayload payload ≡ accepted c → told ≡ stores c → value ≡ valueRead s c
+      → (r .validated ≡ Accepted c) × (r .stores ≡ told) × (r .outcome .refusal ≡ none)
+      × Writes (responseFrame (responsePayload payload value)) before after (r .outcome .length)
+      → Responds s (execute c) before after r
+  accepted-told e t f (validated, tells, number, w) = record {
+    decides = ap (λ v. decided (validatedResult v)) validated;
+    tells = tells ∙ t;
+    results = ap (λ (n : ℕ). responded n (r .outcome .length) after) number ∙ response-told s payload e f w;
+  }
 
 -- what is stored for a payload is what the decision on it stores
 pub stored-by : (s : ModuleState) (r : Result Command) → stateFor s r ≡ stateBy s (decided r)

@@ -6,15 +6,20 @@ ghost use mathlib.Core.Path.{_≡_};
 ghost use mathlib.Core.Bool.{_||_};
 ghost use Prim.Native.Nat.{_≤_};
 ghost use lib.ListN.{length};
-ghost use Rattle.cdi_command.specs.Payload.{responseBufferMin};
+ghost use Rattle.refusal.specs.Refusal.{accepted, none};
+ghost use Rattle.cdi_frame.specs.Layout.{responseFrame};
+ghost use Rattle.cdi_command.specs.Payload.{responsePayload, responseBufferMin};
 ghost use Rattle.cdi_command.specs.Command.{validatePayload};
 ghost use Rattle.cdi_valid.specs.Valid.{isValid};
+ghost use Rattle.cdi_value.specs.Value.{valueRoom, shownBytes};
 ghost use Rattle.cdi_model.specs.Step.{request, command, powerUp, poweredUp, responded};
-ghost use Rattle.cdi_module.specs.Module.{decided, decideIf, decide, refusedAs, Responds, step, resultOf};
+ghost use Rattle.cdi_module.specs.Module.{decided, decideIf, decide, refusedAs, Responds, Writes, step, resultOf};
+use cdi_command::Command;
 use cdi_command::Validated;
 use cdi_frame::FrameRead;
 use cdi_frame::WAKE_LIMIT;
 use cdi_state::ModuleState;
+use cdi_value::Shown;
 use refusal::INVALID;
 use refusal::NONE;
 use refusal::Outcome;
@@ -55,7 +60,32 @@ fn refused(number: u8) -> Decided
     }
 }
 
-// Responds to a payload, by the state as the command finds it.
+// Writes the response to an accepted command, with the value that it reads.
+fn respond_accepted(
+    command: Command,
+    stores: bool,
+    payload: &[u8],
+    shown: Shown,
+    response: &mut [u8],
+) -> Decided
+    requires { ⌜ (validatePayload (now payload) ≡ accepted command) × (shown .length ≤ valueRoom command) × (responseBufferMin ≤ length (now response)) ⌝ }
+    ensures { λ r. ⌜ (r .validated ≡ Validated.Accepted command) × (r .stores ≡ stores) × (r .outcome .refusal ≡ none) × Writes (responseFrame (responsePayload (now (payload .entry)) (shownBytes shown))) (now (response .entry)) (now (response .exit)) (r .outcome .length) ⌝ }
+{
+    let n = shown.length;
+    let bytes = shown.bytes;
+    let length = response::write_response(payload, &bytes[0..n], response);
+    Decided {
+        validated: Validated::Accepted(command),
+        stores,
+        outcome: Outcome {
+            refusal: NONE,
+            length,
+        },
+    }
+}
+
+// Responds to a payload, by the state as the command finds it. A command that stores reads nothing, so the state is handed on, and
+// copied, for the reads alone.
 fn respond_payload(state: ModuleState, payload: &[u8], response: &mut [u8]) -> Decided
     requires { ⌜ responseBufferMin ≤ length (now response) ⌝ }
     ensures { λ r. ⌜ Responds state (decided (validatePayload (now (payload .entry)))) (now (response .entry)) (now (response .exit)) r ⌝ }
@@ -64,18 +94,11 @@ fn respond_payload(state: ModuleState, payload: &[u8], response: &mut [u8]) -> D
     match validated {
         Validated::Refused(number) => refused(number),
         Validated::Accepted(command) => {
-            let shown = cdi_value::read(state, command);
-            let n = shown.length;
-            let bytes = shown.bytes;
-            let length = response::write_response(payload, &bytes[0..n], response);
-            Decided {
-                validated: Validated::Accepted(command),
-                stores: cdi_store::stores(Validated::Accepted(command)),
-                outcome: Outcome {
-                    refusal: NONE,
-                    length,
-                },
+            if cdi_store::stores(validated) {
+                return respond_accepted(command, true, payload, Shown::NOTHING, response);
             }
+            let shown = cdi_value::read(state, command);
+            respond_accepted(command, false, payload, shown, response)
         }
     }
 }
