@@ -9,12 +9,13 @@ ghost use lib.ListN.{length};
 ghost use Rattle.refusal.specs.Refusal.{accepted, none};
 ghost use Rattle.cdi_frame.specs.Layout.{responseFrame};
 ghost use Rattle.cdi_command.specs.Payload.{responsePayload, responseBufferMin};
-ghost use Rattle.cdi_command.specs.Command.{validatePayload};
+ghost use Rattle.cdi_command.specs.Command.{parsePayload, validateValue, validatePayload};
 ghost use Rattle.cdi_valid.specs.Valid.{isValid};
 ghost use Rattle.cdi_value.specs.Value.{valueRoom, shownBytes};
 ghost use Rattle.cdi_model.specs.Step.{request, command, powerUp, poweredUp, responded};
 ghost use Rattle.cdi_module.specs.Module.{decided, decideIf, decide, refusedAs, Responds, Writes, step, resultOf};
 use cdi_command::Command;
+use cdi_command::Parsed;
 use cdi_command::Validated;
 use cdi_frame::FrameRead;
 use cdi_frame::WAKE_LIMIT;
@@ -24,6 +25,7 @@ use refusal::INVALID;
 use refusal::NONE;
 use refusal::Outcome;
 use refusal::RESPONSE_BUFFER_SHORT;
+use refusal::VALUE_NOT_ACCEPTED;
 
 // The longest response is that to a Read of the name: three bytes of the frame, C1, the item and 17 bytes.
 pub const RESPONSE_BUFFER_MIN: usize = 22;
@@ -84,22 +86,36 @@ fn respond_accepted(
     }
 }
 
-// Responds to a payload, by the state as the command finds it. A command that stores reads nothing, so the state is handed on, and
-// copied, for the reads alone.
+// Responds to a command that was parsed, by the state as the command finds it. A command that stores reads nothing, so the state is
+// handed on, and copied, for the reads alone.
+fn respond_command(
+    state: ModuleState,
+    command: Command,
+    payload: &[u8],
+    response: &mut [u8],
+) -> Decided
+    requires { ⌜ (parsePayload (now payload) ≡ accepted command) × (responseBufferMin ≤ length (now response)) ⌝ }
+    ensures { λ r. ⌜ Responds state (decided (validateValue command)) (now (response .entry)) (now (response .exit)) r ⌝ }
+{
+    if !cdi_command::accepts_value(command) {
+        return refused(VALUE_NOT_ACCEPTED);
+    }
+    if cdi_store::stores(Validated::Accepted(command)) {
+        return respond_accepted(command, true, payload, Shown::NOTHING, response);
+    }
+    let shown = cdi_value::read(state, command);
+    respond_accepted(command, false, payload, shown, response)
+}
+
+// Responds to a payload: it is parsed, and then the command's value is tested.
 fn respond_payload(state: ModuleState, payload: &[u8], response: &mut [u8]) -> Decided
     requires { ⌜ responseBufferMin ≤ length (now response) ⌝ }
     ensures { λ r. ⌜ Responds state (decided (validatePayload (now (payload .entry)))) (now (response .entry)) (now (response .exit)) r ⌝ }
 {
-    let validated = cdi_command::validate_payload(payload);
-    match validated {
-        Validated::Refused(number) => refused(number),
-        Validated::Accepted(command) => {
-            if cdi_store::stores(validated) {
-                return respond_accepted(command, true, payload, Shown::NOTHING, response);
-            }
-            let shown = cdi_value::read(state, command);
-            respond_accepted(command, false, payload, shown, response)
-        }
+    let parsed = cdi_command::parse_payload(payload);
+    match parsed {
+        Parsed::Refused(number) => refused(number),
+        Parsed::Accepted(command) => respond_command(state, command, payload, response),
     }
 }
 
@@ -154,21 +170,16 @@ pub fn respond_known(known: bool, state: ModuleState, block: &[u8], response: &m
 
 // Executes one command block on a state. The response is written over the front of `response` and the bytes behind it stay; a
 // refusal changes no byte of it, and nothing in the state.
-pub fn execute(state: ModuleState, block: &[u8], response: &mut [u8]) -> Execution
+pub fn execute(mut state: ModuleState, block: &[u8], response: &mut [u8]) -> Execution
     ensures { λ r. ⌜ (r .state ≡ step state (command (request (now (block .entry)) (now (response .entry))))) × (responded (r .outcome .refusal) (r .outcome .length) (now (response .exit)) ≡ resultOf state (command (request (now (block .entry)) (now (response .entry))))) ⌝ }
 {
     let decided = respond(state, block, response);
     let validated = decided.validated;
     let outcome = decided.outcome;
-    let after = if decided.stores {
-        cdi_store::store(state, validated)
-    } else {
-        state
-    };
-    Execution {
-        state: after,
-        outcome,
+    if decided.stores {
+        state = cdi_store::store(state, validated);
     }
+    Execution { state, outcome }
 }
 
 // Powers a module up: its working part is made from the stored one, RSSI is 80 80, events and flags are 00.
