@@ -9,8 +9,7 @@ ghost use Rattle.cdi_state.specs.State.{factoryState};
 ghost use Rattle.cdi_model.specs.Step.{request, command, powerUp, poweredUp, responded};
 ghost use Rattle.cdi_host.specs.Encode.{encodeCommand};
 ghost use Rattle.cdi_module.specs.Module.{step, resultOf};
-ghost use Rattle.cdi_image.specs.Image.{saved, loaded};
-ghost use Rattle.cdi_image_load.specs.Load.{loadedAs};
+ghost use Rattle.cdi_image.specs.Image.{saved, loaded, loadedAs};
 use analog::ReadoutResult;
 use cdi_state::ModuleState;
 use refusal::Outcome;
@@ -59,7 +58,7 @@ pub extern "C" fn cdi_load(state: &mut ModuleState, image: &[u8]) -> u8
     ensures { λ r. ⌜ (now (state .exit) ≡ loadedAs (now (state .entry)) (loaded (now (state .entry)) (now (image .entry))) .state)
         × (r ≡ loadedAs (now (state .entry)) (loaded (now (state .entry)) (now (image .entry))) .refusal) ⌝ }
 {
-    let done = cdi_image_load::load(*state, image);
+    let done = cdi_image::load(*state, image);
     *state = done.state;
     done.refusal
 }

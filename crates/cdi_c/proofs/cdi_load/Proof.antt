@@ -28,10 +28,10 @@ use denote.Triple.Statement.{Triple}
 use denote.Triple.Walked.{Stays, Walks, ends-at, walked}
 use Rattle.cdi_state.proofs.ModuleState as S
 use Rattle.in_place.proofs.InPlace.{mach, updated, updated-goes, contractOf, entry-meets, says, enters-mut, copies, operand, asks, number, stores, aside, leaves, gives}
-use Rattle.cdi_image_load.specs.declared.Loaded.{Loaded}
-use Rattle.cdi_image_load.proofs.load as core
-use Rattle.cdi_image_load.proofs.load.Symbol as core-def
-use Rattle.cdi_image_load.proofs.load.Met as core-thm
+use Rattle.cdi_image.specs.declared.Loaded.{Loaded}
+use Rattle.cdi_image.proofs.load as core
+use Rattle.cdi_image.proofs.load.Symbol as core-def
+use Rattle.cdi_image.proofs.load.Met as core-thm
 use Rattle.cdi_c.proofs.cdi_load as entry
 use Rattle.cdi_c.proofs.cdi_load.Key as key
 use Rattle.cdi_c.proofs.cdi_load.Statement as stated
@@ -77,4 +77,4 @@ pub cdi-load-spec : {M : Type 1} → stated.statement M
 unfolding code.routine
 cdi-load-spec 𝓤 H 𝓜 𝓖 𝓡 = entry-meets 𝓤 H 𝓜 𝓖 𝓡 entry.ended (entry.clauses 𝓤 H (𝓖 .A) (𝓜 .mem) (𝓡 .run)) stayed (updated-goes 𝓤 H (𝓖 .A) (givenOf 𝓤 H 𝓜 𝓖) 1 others (yes, tt))
     code.env key.name code.function (code.unfolded 𝓤 H 𝓜 𝓡) (contractOf 𝓤 H (𝓖 .A) core.ended (core.clauses 𝓤 H (𝓖 .A) (𝓜 .mem) (𝓡 .run)))
-    core-def.name core-def.routine code.calls-cdi-image-load·load (core-thm.met 𝓤 H 𝓜 𝓖 𝓡) (walks 𝓤 H (𝓖 .A) (givenOf 𝓤 H 𝓜 𝓖) (𝓜 .mem) (𝓡 .run))
+    core-def.name core-def.routine code.calls-cdi-image·load (core-thm.met 𝓤 H 𝓜 𝓖 𝓡) (walks 𝓤 H (𝓖 .A) (givenOf 𝓤 H 𝓜 𝓖) (𝓜 .mem) (𝓡 .run))
