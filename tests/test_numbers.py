@@ -630,10 +630,11 @@ BEHIND = {
     ("cdi_module", "respond_known"): OWN["cdi_execute"],
     ("cdi_module", "power_up"): OWN["cdi_power_up"],
     ("cdi_image", "save"): OWN["cdi_save"],
-    ("cdi_image_load", "load"): OWN["cdi_load"],
+    ("cdi_image", "load"): OWN["cdi_load"],
     ("cdi_host", "encode_command"): OWN["cdi_encode_command"],
     ("analog", "readout"): OWN["cdi_readout"],
     ("cdi_frame", "read_frame"): {3, 4, 5, 6},
+    ("cdi_command", "parse_payload"): {3, 7, 8, 9, 10, 11},
     ("cdi_command", "validate_payload"): {3, 7, 8, 9, 10, 11, 12},
     ("cdi_item", "find_item"): {9},
     # a log on any state, with 22 bytes for each response
