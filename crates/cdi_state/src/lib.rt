@@ -11,12 +11,20 @@ use cdi_item::NAME_LENGTH;
 use cdi_item::ROW_LENGTH;
 use cdi_item::SLOT_COUNT;
 
-// The bytes of items 02, 03 and 10, and of the address in a slot.
+// The bytes of items 02, 03 and 10, which are also those of the address in a slot, ...
 pub const FIRMWARE_LENGTH: usize = 3;
 
 pub const SERIAL_LENGTH: usize = 4;
 
 pub const ADDRESS_LENGTH: usize = 4;
+
+// ... of an input's offset, ...
+pub const OFFSET_LENGTH: usize = 2;
+
+// ... and of items 20 and 21.
+pub const LINES_LENGTH: usize = 2;
+
+pub const RSSI_LENGTH: usize = 2;
 
 // What both RSSI bytes hold before a signal was measured.
 pub const RSSI_NONE: u8 = 0x80;
@@ -34,7 +42,7 @@ pub struct AnalogInput {
     pub channel: u8,
     pub readings: u8,
     pub reference: u8,
-    pub offset: [u8; 2],
+    pub offset: [u8; OFFSET_LENGTH],
 }
 
 // One copy of the settings, items 11 to 16 and 25.
@@ -77,8 +85,8 @@ pub struct Working {
 // What the controller sets (01's live cells): inputs, signal, events, flags and the hardware's pins.
 #[repr(C)]
 pub struct Live {
-    pub lines: [u8; 2],
-    pub rssi: [u8; 2],
+    pub lines: [u8; LINES_LENGTH],
+    pub rssi: [u8; RSSI_LENGTH],
     pub ladj: u8,
     pub events: u8,
     pub flags: u8,
@@ -123,7 +131,7 @@ impl AnalogInput {
         channel: 0xFF,
         readings: 1,
         reference: 0,
-        offset: [0; 2],
+        offset: [0; OFFSET_LENGTH],
     };
 
     // The input as item 16 has it.
@@ -238,8 +246,8 @@ impl ModuleState {
                 settings: Settings::DEFAULT,
             },
             live: Live {
-                lines: [0; 2],
-                rssi: [RSSI_NONE; 2],
+                lines: [0; LINES_LENGTH],
+                rssi: [RSSI_NONE; RSSI_LENGTH],
                 ladj: 0,
                 events: 0,
                 flags: 0,

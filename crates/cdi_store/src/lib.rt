@@ -12,6 +12,7 @@ use cdi_item::Value;
 use cdi_item::code;
 use cdi_state::AnalogInput;
 use cdi_state::ModuleState;
+use cdi_state::RSSI_LENGTH;
 use cdi_state::RSSI_NONE;
 use cdi_state::Settings;
 use cdi_state::Slot;
@@ -159,7 +160,7 @@ pub fn powered_up(state: ModuleState) -> ModuleState
     let mut live = state.live;
     let settings = stored.settings;
     working.settings = settings;
-    live.rssi = [RSSI_NONE; 2];
+    live.rssi = [RSSI_NONE; RSSI_LENGTH];
     live.events = 0;
     live.flags = 0;
     ModuleState {

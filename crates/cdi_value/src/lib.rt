@@ -68,8 +68,16 @@ fn select(left: bool, a: u8, b: u8) -> u8
     if left { a } else { b }
 }
 
+// The bytes of item 23.
+const STATUS_LENGTH: usize = 4;
+
 // Item 23.
-fn status(settings: Settings, hardware: HardwareSelection, flags: u8, events: u8) -> [u8; 4]
+fn status(
+    settings: Settings,
+    hardware: HardwareSelection,
+    flags: u8,
+    events: u8,
+) -> [u8; STATUS_LENGTH]
     ensures { λ r. ⌜ r ≡ statusShown settings hardware flags events ⌝ }
 {
     let control = settings.control_source;
