@@ -159,8 +159,8 @@ fn is_known_or_valid(known: bool, state: ModuleState) -> bool
     cdi_valid::is_valid(state)
 }
 
-// The same for a state that may be known to be valid: no step changes whether a state is, so who runs many blocks asks once. Where
-// `known` is false it is `respond`. Who says that an invalid state is valid has it taken so, as the contract tells.
+// The same for a state that may be known to be valid: no step changes whether a state is valid, so a caller that runs many blocks asks
+// once. With `known` false this is `respond`. With `known` true, an invalid state is answered as if it were valid.
 pub fn respond_known(known: bool, state: ModuleState, block: &[u8], response: &mut [u8]) -> Decided
     ensures { λ r. ⌜ Responds state (decideIf (known || isValid state) (request (now (block .entry)) (now (response .entry)))) (now (response .entry)) (now (response .exit)) r ⌝ }
 {
@@ -168,8 +168,8 @@ pub fn respond_known(known: bool, state: ModuleState, block: &[u8], response: &m
     respond_if(valid, state, block, response)
 }
 
-// Executes one command block on a state. The response is written over the front of `response` and the bytes behind it stay; a
-// refusal changes no byte of it, and nothing in the state.
+// Executes one command block on a state. The response is written over the front of `response` and the bytes after it stay; a
+// refusal changes no byte of it, and nothing in the state. A block that stores nothing gives the state back without a further copy.
 pub fn execute(mut state: ModuleState, block: &[u8], response: &mut [u8]) -> Execution
     ensures { λ r. ⌜ (r .state ≡ step state (command (request (now (block .entry)) (now (response .entry))))) × (responded (r .outcome .refusal) (r .outcome .length) (now (response .exit)) ≡ resultOf state (command (request (now (block .entry)) (now (response .entry))))) ⌝ }
 {
