@@ -72,16 +72,11 @@ pub struct Loaded {
     pub refusal: u8,
 }
 
-// The state with another stored part, and then powered up. That part alone has to be valid; a refusal leaves the state.
+// The state with another stored part, and then powered up. Only that part is tested: after a power-up it decides whether the whole state is
+// valid. A refusal leaves the state.
 fn load_stored(state: ModuleState, stored: Stored) -> Loaded
     ensures { λ r. ⌜ r ≡ loadedAs state (storedLoaded state stored) ⌝ }
 {
-    if !cdi_valid::is_valid_stored(stored) {
-        return Loaded {
-            state,
-            refusal: INVALID,
-        };
-    }
     let working = state.working;
     let live = state.live;
     let replaced = ModuleState {
@@ -90,6 +85,12 @@ fn load_stored(state: ModuleState, stored: Stored) -> Loaded
         live,
     };
     let after = cdi_store::powered_up(replaced);
+    if !cdi_valid::is_valid(after) {
+        return Loaded {
+            state,
+            refusal: INVALID,
+        };
+    }
     Loaded {
         state: after,
         refusal: NONE,

@@ -96,8 +96,8 @@ fn are_valid_flags(flags: u8) -> bool
     (flags & MODE_MASK <= MODE_MAX) & (flags & FLAGS_ZERO == 0)
 }
 
-// Whether the stored part is valid: an image is tested for this alone.
-pub fn is_valid_stored(stored: Stored) -> bool
+// Whether the stored part of a state is valid.
+fn is_valid_stored(stored: Stored) -> bool
     ensures { λ r. ⌜ r ≡ validStored stored ⌝ }
 {
     let name = stored.name;
