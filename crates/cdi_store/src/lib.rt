@@ -30,12 +30,14 @@ fn with_value(settings: Settings, setting: SettingField, value: Value) -> Settin
     let mut t = settings;
     match setting {
         SettingField::Row(number) => {
-            if !cdi_item::is_input_number(number.0) {
+            let input = AnalogInput::from_bytes(value.bytes());
+            if number.0 == 1 {
+                t.analog_inputs[0] = input;
                 return t;
             }
-            let i = (number.0 - 1) as usize;
-            let input = AnalogInput::from_bytes(value.bytes());
-            t.analog_inputs[i] = input;
+            if number.0 == 2 {
+                t.analog_inputs[1] = input;
+            }
             t
         }
         SettingField::Byte(item) => {

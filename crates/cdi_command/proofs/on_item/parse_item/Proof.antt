@@ -1,15 +1,18 @@
 -- `parse_item` meets its contract: the tests are the definition's, and its returns stand in the same order.
 -- Assumes nothing.
-use Prim.Native.Nat.{ℕ}
+use Prim.Native.Nat.{ℕ, _≤_}
 use mathlib.Core.Path.{_≡_, sym, _∙_}
-use mathlib.Core.Bool.{false, cond, not}
+use mathlib.Core.Bool.{true, false, cond, not}
 use mathlib.Core.List.{List}
 use lib.Dec.{eqb}
 use lib.ListN.{length}
+use native.Mathlib.Omega.{arith}
 use borrow.Author.Needs.{needs}
+use borrow.Author.Tests.{eqb-true, not-false}
+use Rattle.logic.proofs.Choice.{choice}
 use Rattle.refusal.specs.Refusal.{accepted, refused, notPermitted, wrongLength}
 use Rattle.cdi_item.specs.declared.Item.{Item}
-use Rattle.cdi_command.specs.Command.{valueAt, plainCommand, commandOn, parseIndex, parseItem}
+use Rattle.cdi_command.specs.Command.{carriesValue, expectedLength, valueAt, plainCommand, commandOn, parseIndex, parseItem}
 use Rattle.cdi_command.proofs.on_item.parse_item.Statement.{statement}
 use Rattle.cdi_command.proofs.on_item.parse_item.Tie as tie
 
@@ -17,6 +20,10 @@ use Rattle.cdi_command.proofs.on_item.parse_item.Tie as tie
 on-plain : (code : ℕ) (s : List ℕ) (item : Item) → item .indexed ≡ false → parseIndex code s item ≡ accepted (plainCommand item code (valueAt s 2))
 unfolding commandOn
 on-plain code s item h = simp h
+
+-- the payload of a command on an indexed item has its index
+has-index : (item : Item) (code n : ℕ) → item .indexed ≡ true → n ≡ expectedLength item code → 3 ≤ n
+has-index item code n h e = rw e (rw h (choice (λ (m : ℕ). 3 ≤ m) (carriesValue code) (λ _. omega arith) (λ _. omega arith)))
 
 mark-of-requires : tie.Need-mark-of-requires
 mark-of-requires c κs = search needs
@@ -43,7 +50,11 @@ returns-2 : tie.Need-returns-2
 returns-2 c = sym (first (c .before .before) ∙ simp (c .before .if1 .left, c .if2 .taken))
 
 parse-row-requires : tie.Need-parse-row-requires
-parse-row-requires c κs = search needs
+parse-row-requires c κs =
+    let l = c .before in
+    let x = l .before .before in
+    let a = x .before .before .before .before .args in
+    (c .if3 .taken, has-index (a .item) (a .code) (length (a .payload .now)) (c .if3 .taken) (eqb-true _ _ (not-false _ (l .if2 .left)) ∙ x .expected-length .ensures))
 
 returns-3 : tie.Need-returns-3
 returns-3 c =

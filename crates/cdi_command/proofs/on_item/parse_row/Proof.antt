@@ -5,7 +5,7 @@ use mathlib.Core.Path.{_≡_, sym, _∙_}
 use mathlib.Core.Bool.{Bool, true, cond, not}
 use mathlib.Core.List.{List}
 use borrow.Author.Needs.{needs}
-use borrow.Author.Tests.{eq-eqb, ne-eqb, not-true, not-false}
+use borrow.Author.Tests.{eq-eqb, ne-eqb}
 use lib.Dec.{eqb}
 use Rattle.refusal.specs.Refusal.{accepted, refused, wrongIndex}
 use Rattle.cdi_item.specs.declared.Item.{Item}
@@ -23,8 +23,8 @@ on-row : (code : ℕ) (s : List ℕ) (item : Item) (inputs : Bool) → item .ind
 unfolding commandOn
 on-row code s item inputs h e = simp (h, e)
 
-byte-at-requires : tie.Need-byte-at-requires
-byte-at-requires c κs = search needs
+shared-slice-read-byte : tie.Need-shared-slice-read-byte
+shared-slice-read-byte c = search needs
 
 is-input-number-requires : tie.Need-is-input-number-requires
 is-input-number-requires c κs = search needs
@@ -32,10 +32,9 @@ is-input-number-requires c κs = search needs
 returns : tie.Need-returns
 returns c =
     let n = c .before in
-    let b = n .before .before .before in
-    let z = b .before .before in
-    sym (on-row _ (z .args .payload .now) (z .args .item) _ (z .pre) (eq-eqb _ _ (n .before .if1 .taken))
-    ∙ simp (sym (b .byte-at .ensures), sym (n .is-input-number .ensures), c .if2 .taken))
+    let z = n .before .before .before .before .before in
+    sym (on-row _ (z .args .payload .now) (z .args .item) _ (z .pre .0) (eq-eqb _ _ (n .before .if1 .taken))
+    ∙ simp (sym (n .is-input-number .ensures), c .if2 .taken))
 
 indexed-command-requires : tie.Need-indexed-command-requires
 indexed-command-requires c κs = search needs
@@ -44,10 +43,9 @@ returns-2 : tie.Need-returns-2
 returns-2 c =
     let e = c .before in
     let n = e .before in
-    let b = n .before .before .before in
-    let z = b .before .before in
-    simp (c .indexed-command .ensures) (sym (on-row _ (z .args .payload .now) (z .args .item) _ (z .pre) (eq-eqb _ _ (n .before .if1 .taken))
-    ∙ simp (sym (b .byte-at .ensures), sym (n .is-input-number .ensures), e .if2 .left)))
+    let z = n .before .before .before .before .before in
+    simp (c .indexed-command .ensures) (sym (on-row _ (z .args .payload .now) (z .args .item) _ (z .pre .0) (eq-eqb _ _ (n .before .if1 .taken))
+    ∙ simp (sym (n .is-input-number .ensures), e .if2 .left)))
 
 is-slot-index-requires : tie.Need-is-slot-index-requires
 is-slot-index-requires c κs = search needs
@@ -55,10 +53,9 @@ is-slot-index-requires c κs = search needs
 returns-3 : tie.Need-returns-3
 returns-3 c =
     let n = c .before in
-    let b = n .before .before .before in
-    let z = b .before .before in
-    sym (on-row _ (z .args .payload .now) (z .args .item) _ (z .pre) (ne-eqb _ _ (n .before .if1 .left))
-    ∙ simp (sym (b .byte-at .ensures), sym (n .is-slot-index .ensures), c .if3 .taken))
+    let z = n .before .before .before .before .before in
+    sym (on-row _ (z .args .payload .now) (z .args .item) _ (z .pre .0) (ne-eqb _ _ (n .before .if1 .left))
+    ∙ simp (sym (n .is-slot-index .ensures), c .if3 .taken))
 
 indexed-command-requires-2 : tie.Need-indexed-command-requires-2
 indexed-command-requires-2 c κs = search needs
@@ -67,16 +64,15 @@ returns-4 : tie.Need-returns-4
 returns-4 c =
     let e = c .before in
     let n = e .before in
-    let b = n .before .before .before in
-    let z = b .before .before in
-    simp (c .indexed-command2 .ensures) (sym (on-row _ (z .args .payload .now) (z .args .item) _ (z .pre) (ne-eqb _ _ (n .before .if1 .left))
-    ∙ simp (sym (b .byte-at .ensures), sym (n .is-slot-index .ensures), e .if3 .left)))
+    let z = n .before .before .before .before .before in
+    simp (c .indexed-command2 .ensures) (sym (on-row _ (z .args .payload .now) (z .args .item) _ (z .pre .0) (ne-eqb _ _ (n .before .if1 .left))
+    ∙ simp (sym (n .is-slot-index .ensures), e .if3 .left)))
 
 pub parse-row-spec : {M : Type 1} → statement M
 parse-row-spec =
     tie.close
     (tie.spec
-    byte-at-requires
+    shared-slice-read-byte
     is-input-number-requires
     returns
     indexed-command-requires
