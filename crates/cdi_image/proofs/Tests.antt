@@ -1,4 +1,4 @@
--- By computation: which cells an image has, and the image of a stored part.
+-- Which cells an image has, and the image of a stored part, by computation; and that this image is the cells of a state.
 -- Assumes nothing.
 use mathlib.Core.Path.{refl, sym}
 use mathlib.Core.List.{flatMap}

@@ -4,7 +4,7 @@ use mathlib.Core.List.{List, [], _∷_, _++_, flatMap}
 use mathlib.Core.Bool.{cond, not}
 use lib.Dec.{eqb}
 use lib.ListN.{length, getD, take, drop}
-use Rattle.logic.specs.Lists.{sameBytes, part}
+use Rattle.logic.specs.Lists.{sameBytes, between}
 use Rattle.refusal.specs.Refusal.{Result, accepted, refused, none, invalid, imageLength, imageMark, imageVersion}
 use Rattle.cdi_item.specs.Items.{rowLength, slotCount}
 use Rattle.cdi_state.specs.declared.Slot.{Slot}
@@ -88,10 +88,6 @@ slotsAt = 43
 
 abbrev pub interruptMaskAt : ℕ
 interruptMaskAt = 243
-
--- the bytes from one place to another
-abbrev pub between : (from to : ℕ) → List ℕ → List ℕ
-between from to l = part from (to - from) l
 
 abbrev pub settingsIn : List ℕ → Settings
 settingsIn contents = record {

@@ -2,9 +2,9 @@
 ghost use mathlib.Core.Path.{_≡_};
 ghost use Prim.Native.Nat.{_*_, _≤_};
 ghost use lib.ListN.{length};
-ghost use Rattle.logic.specs.Lists.{sameBytes};
+ghost use Rattle.logic.specs.Lists.{sameBytes, between};
 ghost use Rattle.cdi_item.specs.Items.{nameLength, rowLength, slotCount};
-ghost use Rattle.cdi_image.specs.Image.{mark, version1, versionAt, headSize, contentsSize, between, settingsIn, slotsIn, storedIn};
+ghost use Rattle.cdi_image.specs.Image.{mark, version1, versionAt, headSize, contentsSize, settingsIn, slotsIn, storedIn};
 use super::ADDRESS_AT;
 use super::FIRMWARE_AT;
 use super::INPUT_1_AT;
@@ -58,6 +58,7 @@ fn three_in(bytes: &[u8]) -> [u8; FIRMWARE_LENGTH]
     [bytes[0], bytes[1], bytes[2]]
 }
 
+// The serial number has as many bytes as an address.
 fn four_in(bytes: &[u8]) -> [u8; ADDRESS_LENGTH]
     requires { ⌜ length (now bytes) ≡ 4 ⌝ }
     ensures { λ r. ⌜ r ≡ now (bytes .entry) ⌝ }

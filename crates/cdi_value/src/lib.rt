@@ -50,7 +50,7 @@ fn show(source: &[u8]) -> Shown
 
 // How many bytes of a name are shown: those before its first 00, and that one.
 fn name_length(name: [u8; NAME_LENGTH]) -> usize
-    ensures { λ r. ⌜ (r ≤ 17) × (take r name ≡ nameShown name) ⌝ }
+    ensures { λ r. ⌜ (r ≤ valueMax) × (take r name ≡ nameShown name) ⌝ }
 {
     let mut i: usize = 0;
     while i < NAME_LENGTH {

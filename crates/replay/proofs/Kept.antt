@@ -11,7 +11,8 @@ use lib.ListN.{length, take, drop, getD, set, length-drop}
 use lib.Seq.{take-all, take-take, take-add, take-suc, take-suc-set, drop-set-lt, drop-drop, getD-drop, length-take-le}
 use Rattle.hex_text.specs.Hex.{lineFeed}
 use Rattle.replay_text.specs.Session.{keptMax, keptOf, lastLine}
-use Rattle.replay.specs.Program.{between, isEnd, charsAfter, Refilled}
+use Rattle.logic.specs.Lists.{between}
+use Rattle.replay.specs.Program.{isEnd, charsAfter, Refilled}
 
 -- one byte more is moved to the front: what is still to be moved is as it was
 module _ (moved first : List ℕ) (from i : ℕ) (same : length moved ≡ length first) (inside : from + i < length first) where

@@ -20,7 +20,8 @@ use Rattle.replay_text.specs.Session.{keptOf}
 use Rattle.replay_text.proofs.Laws.{consumed-within, unfinished-left}
 use Rattle.replay_lines.specs.declared.Progress.{Progress}
 use Rattle.replay_lines.specs.Progress.{progress}
-use Rattle.replay.specs.Program.{bufferSize, between, Refilled, answers, leftBehind, isFull, Stays}
+use Rattle.logic.specs.Lists.{between}
+use Rattle.replay.specs.Program.{bufferSize, Refilled, answers, leftBehind, isFull, Stays}
 
 -- a part of a buffer, once some of it is behind
 between-behind : (l : List ℕ) (from end n : ℕ) → from + n ≤ end → end ≤ length l → between (from + n) end l ≡ drop n (between from end l)

@@ -6,7 +6,7 @@ use mathlib.Core.Logic.{_⊎_}
 use mathlib.Core.List.{List, _++_}
 use lib.Dec.{ltb}
 use lib.ListN.{length, take, drop}
-use Rattle.logic.specs.Lists.{part}
+use Rattle.logic.specs.Lists.{part, between}
 use Rattle.cdi_state.specs.declared.ModuleState.{ModuleState}
 use Rattle.replay_text.specs.Replay.{linesText, linesState}
 use Rattle.replay_text.specs.Answered.{printedMax, withLineFeeds, answered}
@@ -15,10 +15,6 @@ use Rattle.replay_text.specs.Session.{keptOf, lastLine}
 -- the input buffer and the output buffer
 abbrev pub bufferSize : ℕ
 bufferSize = 65536
-
--- the characters of a buffer from one place as far as another
-abbrev pub between : (from end : ℕ) → List ℕ → List ℕ
-between from end buffer = part from (end - from) buffer
 
 -- a read answers how many characters it gave, and whether it failed; none and no failure is the end of the input
 abbrev pub isEnd : (count : ℕ) (failed : Bool) → Bool

@@ -1,6 +1,6 @@
 -- A payload that is not parsed is refused with the parse's number; what is left is the command's.
 -- Assumes nothing.
-use mathlib.Core.Path.{_≡_, sym, ap, _∙_}
+use mathlib.Core.Path.{sym, ap, _∙_}
 use Rattle.cdi_command.specs.Command.{parsedResult, validatePayload}
 use Rattle.cdi_module.proofs.Told.{refusal-told}
 use borrow.Author.Needs.{needs}

@@ -6,8 +6,6 @@ use borrow.Author.Needs.{needs}
 use Rattle.cdi_command.proofs.Tags.{is-read, is-other}
 use Rattle.cdi_store.proofs.stores.Statement.{statement}
 use Rattle.cdi_store.proofs.stores.Tie as tie
-use Rattle.cdi_store.proofs.stores.Reads as reads
-use Rattle.cdi_store.proofs.stores.Lts as lts
 
 enum-told : tie.Need-enum-told
 enum-told c = search needs

@@ -2,7 +2,7 @@
 -- Assumes nothing.
 use mathlib.Core.Path.{_≡_, ap, _∙_}
 use Rattle.cdi_state.specs.State.{inputIn}
-use Rattle.cdi_image.specs.Image.{between}
+use Rattle.logic.specs.Lists.{between}
 use borrow.Author.Needs.{needs}
 use Rattle.cdi_image.proofs.read.settings_in.Statement.{statement}
 use Rattle.cdi_image.proofs.read.settings_in.Tie as tie

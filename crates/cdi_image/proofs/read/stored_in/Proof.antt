@@ -1,7 +1,8 @@
 -- Each part is read from its own place.
 -- Assumes nothing.
 use mathlib.Core.Path.{_≡_}
-use Rattle.cdi_image.specs.Image.{between, slotsIn, storedIn}
+use Rattle.logic.specs.Lists.{between}
+use Rattle.cdi_image.specs.Image.{slotsIn, storedIn}
 use borrow.Author.Needs.{needs}
 use Rattle.cdi_image.proofs.read.stored_in.Statement.{statement}
 use Rattle.cdi_image.proofs.read.stored_in.Tie as tie
