@@ -9,8 +9,8 @@
  * What holds for every function here:
  *
  *   - It takes every input, ends, and refuses bad input with a number (CDI_REFUSAL_...). If several
- *     apply, the function's comment gives the order. A refusal changes no byte of a buffer and
- *     nothing in the state.
+ *     apply, it is the first in the order that the function's comment gives. A refusal changes no
+ *     byte of a buffer and nothing in the state.
  *   - The caller owns all memory. Nothing is allocated, kept after the return, or shared between
  *     calls: calls on different states may run at the same time.
  *   - A pointer is not NULL, also where the length beside it is 0, and the regions that a call is

@@ -157,15 +157,18 @@ DEFAULTS = "00 00 00 06 00 FF 01 00 00 00 FF 01 00 00 00 00"
 FILLED_NAME = "53 74 61 6C 6C 20 37 00 E1 E2 E3 E4 E5 E6 E7 E8 E9"
 FILLED_NV = "91 93 EC 1F 05 04 0F 01 12 01 05 0E 01 12 02 95"
 FILLED_SLOTS = " ".join(f"{index + 1:02X} 00 00 00 {index + 0xC0:02X}" for index in range(40))
+FILLED_STORED = {
+    "stored.name": FILLED_NAME,
+    "stored.firmware": "F1 F2 F3",
+    "stored.serial": "D1 D2 D3 D4",
+    "stored.address": "A1 A2 A3 A4",
+    "stored.settings": FILLED_NV,
+    "stored.slots": FILLED_SLOTS,
+}
 FILLED = changed(
     FACTORY_STATE,
     {
-        "stored.name": FILLED_NAME,
-        "stored.firmware": "F1 F2 F3",
-        "stored.serial": "D1 D2 D3 D4",
-        "stored.address": "A1 A2 A3 A4",
-        "stored.settings": FILLED_NV,
-        "stored.slots": FILLED_SLOTS,
+        **FILLED_STORED,
         "working.settings": "92 94 0A 00 03 06 10 00 34 01 FE 02 00 34 02 96",
         "live.lines": "B1 B2",
         "live.rssi": "C1 C2",

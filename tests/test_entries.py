@@ -35,6 +35,7 @@ from states import (
     FILLED_NAME,
     FILLED_NV,
     FILLED_SLOTS,
+    FILLED_STORED,
     START,
     STATE,
     STATE_SIZE,
@@ -537,16 +538,8 @@ def check_power_up(compare, rng):
 
 IMAGE_HEAD = "53 57 42 00 01"  # SWB, 0001
 
-# What the image holds of the filled state, part by part, and what a load of it changes.
-FILLED_CELLS = {
-    "stored.name": FILLED_NAME,
-    "stored.firmware": "F1 F2 F3",
-    "stored.serial": "D1 D2 D3 D4",
-    "stored.address": "A1 A2 A3 A4",
-    "stored.settings": FILLED_NV,
-    "stored.slots": FILLED_SLOTS,
-}
-FILLED_LOAD = {**FILLED_CELLS, "working.settings": FILLED_NV, **START}
+# What a load of the filled state's image changes, and that image.
+FILLED_LOAD = {**FILLED_STORED, "working.settings": FILLED_NV, **START}
 FILLED_IMAGE = bytes.fromhex(
     f"{IMAGE_HEAD} {FILLED_NAME} F1 F2 F3 D1 D2 D3 D4 A1 A2 A3 A4"
     " 91 93 EC 1F 05 04 0F 01 12 01 05 0E 01 12 02"
