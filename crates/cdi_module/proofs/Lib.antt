@@ -7,5 +7,5 @@ pub mod Follows
 pub mod Theorem
 pub mod Within
 pub mod Factory
-pub mod Told
+pub mod Decided
 pub mod Determined

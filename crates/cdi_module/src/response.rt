@@ -2,7 +2,7 @@
 // which see only the part of the buffer behind the frame's first bytes.
 ghost use mathlib.Core.List.{_∷_, _++_};
 ghost use Prim.Native.Nat.{_≤_};
-ghost use lib.ListN.{length};
+ghost use lib.ListN.{length, take};
 ghost use Rattle.cdi_frame.specs.Layout.{responseFrame};
 ghost use Rattle.cdi_command.specs.Payload.{responsePayload, ackResponse, noError, responseBufferMin};
 ghost use Rattle.cdi_module.specs.Module.{Writes};
@@ -71,8 +71,8 @@ fn put_payload(payload: &[u8], value: &[u8], out: &mut [u8]) -> usize
 // The payload stands behind the start byte, the sync byte and the length byte.
 const PAYLOAD_START: usize = 3;
 
-// Writes the response to an accepted command over the front of `response`, and returns its length.
-pub(crate) fn write_response(payload: &[u8], value: &[u8], response: &mut [u8]) -> usize
+// Writes the frame of the response to an accepted command over the front of `response`, and returns its length.
+fn write_frame(payload: &[u8], value: &[u8], response: &mut [u8]) -> usize
     requires { ⌜ (1 ≤ length (now payload)) × (length (responseFrame (responsePayload (now payload) (now value))) ≤ responseBufferMin) × (responseBufferMin ≤ length (now response)) ⌝ }
     ensures { λ r. ⌜ Writes (responseFrame (responsePayload (now (payload .entry)) (now (value .entry)))) (now (response .entry)) (now (response .exit)) r ⌝ }
 {
@@ -81,4 +81,18 @@ pub(crate) fn write_response(payload: &[u8], value: &[u8], response: &mut [u8]) 
     response[1] = SYNC;
     response[2] = LENGTH_BASE + length as u8;
     PAYLOAD_START + length
+}
+
+// The same, by the first `size` bytes of a payload and the first `count` of a value.
+pub(crate) fn write_response(
+    payload: &[u8],
+    size: usize,
+    value: &[u8],
+    count: usize,
+    response: &mut [u8],
+) -> usize
+    requires { ⌜ (1 ≤ size) × (size ≤ length (now payload)) × (count ≤ length (now value)) × (length (responseFrame (responsePayload (take size (now payload)) (take count (now value)))) ≤ responseBufferMin) × (responseBufferMin ≤ length (now response)) ⌝ }
+    ensures { λ r. ⌜ Writes (responseFrame (responsePayload (take size (now (payload .entry))) (take count (now (value .entry))))) (now (response .entry)) (now (response .exit)) r ⌝ }
+{
+    write_frame(&payload[0..size], &value[0..count], response)
 }
