@@ -15,7 +15,7 @@ use Rattle.cdi_model.specs.Step.{Request, command}
 use Rattle.cdi_module.specs.Module.{decided, decide, stateBy, blockResult, respondedTo, step, resultOf}
 
 -- what is stored for a payload is what the decision on it stores
-stored-by : (s : ModuleState) (r : Result Command) → stateFor s r ≡ stateBy s (decided r)
+pub stored-by : (s : ModuleState) (r : Result Command) → stateFor s r ≡ stateBy s (decided r)
 stored-by s (accepted c) = refl
 stored-by s (refused n) = refl
 

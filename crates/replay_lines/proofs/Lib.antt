@@ -1,3 +1,4 @@
 pub mod Printed
+pub mod Decided
 pub mod Read
 pub mod Answering

@@ -1,20 +1,21 @@
 -- What `replay_lines` does with a part of an input and a buffer: for one line, and for all that are answered.
 use Prim.Native.Nat.{ℕ, _≤_}
 use mathlib.Core.Path.{_≡_}
-use mathlib.Core.Bool.{cond}
+use mathlib.Core.Bool.{Bool}
 use mathlib.Core.List.{List}
-use lib.ListN.{length, take}
+use lib.ListN.{length, take, replicate}
 use Rattle.logic.specs.Written.{written}
 use Rattle.hex_text.specs.Hex.{Line, block, notHex}
 use Rattle.hex_text.specs.declared.HexLine.{HexLine}
 use Rattle.hex_text.specs.declared.HexLine.the-variants.{Block, NotHex, NoRoom}
-use Rattle.response_text.specs.Text.{printed}
-use Rattle.cdi_command.specs.Command.{validatedResult}
+use Rattle.response_text.specs.Text.{notHexText, printed}
+use Rattle.refusal.specs.Refusal.{Result, none}
+use Rattle.cdi_command.specs.declared.Command.{Command}
+use Rattle.cdi_command.specs.Payload.{responseBufferMin}
 use Rattle.cdi_state.specs.declared.ModuleState.{ModuleState}
-use Rattle.cdi_store.specs.Store.{stateFor}
-use Rattle.replay_text.specs.Replay.{lineText, lineState, linesText, linesState}
+use Rattle.cdi_module.specs.Module.{Decision, refuse, decideBlock, respondedTo}
+use Rattle.replay_text.specs.Replay.{resultText, linesText, linesState}
 use Rattle.replay_text.specs.Answered.{printedMax, withLineFeeds}
-use Rattle.replay_lines.specs.declared.LineAnswer.{LineAnswer}
 use Rattle.replay_lines.specs.declared.Progress.{Progress}
 
 -- the most bytes of a line's block
@@ -39,10 +40,20 @@ pub record Prints (text before after : List ℕ) (count : ℕ) : Type 0 where
   pub placed : after ≡ written before (printed text)
   pub few : count ≤ printedMax
 
--- a line answered: its text is printed, and where it stores anything the state after it is what is stored for its payload
-pub record Answers (state : ModuleState) (line : Line) (before after : List ℕ) (r : LineAnswer) : Type 0 where
-  pub stored : cond (r .stores) (stateFor state (validatedResult (r .validated))) state ≡ lineState state line
-  pub prints : Prints (lineText state line) before after (r .printed)
+-- what is decided on a line: one that is not hex is no step, and stores nothing
+abbrev pub lineDecision : (valid : Bool) → Line → Decision
+lineDecision valid (block bytes) = decideBlock valid responseBufferMin bytes
+lineDecision valid notHex = refuse none
+
+-- the text of what was decided on a block, ...
+abbrev pub decisionText : ModuleState → Result Command → List ℕ
+decisionText s r = resultText (respondedTo s r (replicate responseBufferMin 0))
+
+-- ... and of what was decided on a line that a reader told
+abbrev pub answerText : ModuleState → HexLine → Result Command → List ℕ
+answerText s (Block n) r = decisionText s r
+answerText s NotHex r = notHexText
+answerText s NoRoom r = notHexText
 
 -- what came of some lines: the state after them, how many characters they are, and how many are printed
 abbrev pub progress : ModuleState → List (List ℕ) → Progress

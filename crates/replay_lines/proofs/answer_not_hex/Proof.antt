@@ -1,6 +1,5 @@
 -- The line is shorter than the longest.
 -- Assumes nothing.
-use mathlib.Core.Path.{refl}
 use native.Mathlib.Omega.{arith}
 use borrow.Author.Needs.{needs}
 use Rattle.replay_lines.proofs.Printed.{prints}
@@ -17,7 +16,7 @@ returns : tie.Need-returns
 returns c =
     let call = c .before .before .write-not-hex in
     let s = c .before .before .before .before .before in
-    (refl, refl, prints _ _ _ _ (omega arith) (s .pre) (call .ensures .0) (call .ensures .1))
+    prints _ _ _ _ (omega arith) (s .pre) (call .ensures .0) (call .ensures .1)
 
 pub answer-not-hex-spec : {M : Type 1} → statement M
 answer-not-hex-spec = tie.close (tie.spec write-not-hex-requires same-length returns)
