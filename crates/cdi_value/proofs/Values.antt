@@ -1,7 +1,7 @@
--- A name as it is shown, the row of an input, a value that fits, and what is shown where nothing is read.
+-- A name as it is shown, the row of an input, a value that fits, and what is read where nothing is.
 -- Assumes nothing.
 use Prim.Native.Nat.{ℕ, zero, suc, _+_, _-_, _<_, _≤_}
-use mathlib.Core.Path.{_≡_}
+use mathlib.Core.Path.{_≡_, refl}
 use mathlib.Core.Bool.{false, true≢false}
 use mathlib.Core.List.{List, [], _∷_, _++_, append-nil, append-assoc}
 use native.Mathlib.Numerals.{add-one}
@@ -10,15 +10,14 @@ use borrow.Author.Tests.{eq-eqb, ne-eqb}
 use lib.ListN.{length, getD, take, drop}
 use lib.Seq.{take-suc, take-length, drop-length}
 use Rattle.logic.proofs.Rest.{one-more}
-use Rattle.cdi_value.specs.declared.Shown.{Shown}
-use Rattle.cdi_item.specs.Items.{rowLength}
+use Rattle.logic.proofs.Written.{writes-none}
 use Rattle.cdi_command.specs.declared.Command.{Command}
 use Rattle.cdi_command.specs.declared.Command.the-variants.{Read, ReadIndexed, ReadNv, ReadNvIndexed, Write, WriteIndexed, Program, ProgramIndexed, SetDefault, EraseAll}
 use Rattle.cdi_command.specs.Kind.{isRead}
 use Rattle.cdi_state.specs.declared.Settings.{Settings}
 use Rattle.cdi_state.specs.declared.ModuleState.{ModuleState}
 use Rattle.cdi_state.specs.State.{noInput, inputAt}
-use Rattle.cdi_value.specs.Value.{nameShown, valueRead, valueRoom, Shows}
+use Rattle.cdi_value.specs.Value.{nameShown, valueRead, Shows}
 
 module _ (l : List ℕ) (i : ℕ) (h : i < length l) where
   one-taken : take (i + 1) l ≡ take i l ++ (getD l i 0 ∷ [])
@@ -40,12 +39,12 @@ unfolding nameShown
 shown-all l i e = rw (e, take-length l, drop-length l, append-nil)
 
 -- a value that fits into some room fits into more
-pub shows-more : {n m : ℕ} {v : List ℕ} {x : Shown} → Shows n v x → n ≤ m → Shows m v x
-shows-more {m = m} h le = record { few = omega (arith, h .few); front = h .front }
+pub shows-more : {n m k : ℕ} {v before after : List ℕ} → Shows n v before after k → n ≤ m → Shows m v before after k
+shows-more {m = m} h le = record { few = omega (arith, h .few); writes = h .writes }
 
--- a value of five bytes is a row
-pub shows-five : {v : List ℕ} {x : Shown} → Shows (length v) v x → length v ≡ 5 → Shows rowLength v x
-shows-five h e = shows-more h (omega arith)
+-- nothing fits into any room
+pub shows-none : {room : ℕ} (before : List ℕ) → Shows room [] before before 0
+shows-none before = record { few = omega arith; writes = writes-none before }
 
 -- inputs count from 1
 pub input-at : (t : Settings) (n : ℕ) → 1 ≤ n → inputAt t n ≡ getD (t .«analog_inputs») (n - 1) noInput
@@ -53,14 +52,14 @@ input-at t zero h = absurd (omega arith)
 input-at t (suc i) h = let e : suc i - 1 ≡ i = omega arith in rw e
 
 -- a command that is no read has no value
-pub none-shown : (s : ModuleState) (c : Command) (r : Shown) → isRead c ≡ false → Shows 0 [] r → Shows (valueRoom c) (valueRead s c) r
-none-shown s (Read x) y e h = absurd (true≢false e)
-none-shown s (ReadIndexed x i) y e h = absurd (true≢false e)
-none-shown s (ReadNv x) y e h = absurd (true≢false e)
-none-shown s (ReadNvIndexed x i) y e h = absurd (true≢false e)
-none-shown s (Write x v) y e h = h
-none-shown s (WriteIndexed x i v) y e h = h
-none-shown s (Program x v) y e h = h
-none-shown s (ProgramIndexed x i v) y e h = h
-none-shown s SetDefault y e h = h
-none-shown s EraseAll y e h = h
+pub none-read : (s : ModuleState) (c : Command) → isRead c ≡ false → valueRead s c ≡ []
+none-read s (Read x) e = absurd (true≢false e)
+none-read s (ReadIndexed x i) e = absurd (true≢false e)
+none-read s (ReadNv x) e = absurd (true≢false e)
+none-read s (ReadNvIndexed x i) e = absurd (true≢false e)
+none-read s (Write x v) e = refl
+none-read s (WriteIndexed x i v) e = refl
+none-read s (Program x v) e = refl
+none-read s (ProgramIndexed x i v) e = refl
+none-read s SetDefault e = refl
+none-read s EraseAll e = refl

@@ -1,12 +1,12 @@
--- Document 01, "Items": the bytes that a command reads, as the module has them in its state, and a value as it is handed on.
+-- Document 01, "Items": the bytes that a command reads, as the module has them in its state, and a value as it is written.
 use Prim.Native.Nat.{ℕ, _≤_}
-use mathlib.Core.Path.{_≡_}
 use mathlib.Core.List.{List, [], _∷_}
 use mathlib.Core.Bool.{cond}
 use lib.Bits.{bitAnd, bitOr}
-use lib.Dec.{eqb}
-use lib.ListN.{getD, take}
+use lib.Dec.{eqb, ltb}
+use lib.ListN.{getD}
 use Rattle.logic.specs.Lists.{part}
+use Rattle.logic.specs.Written.{Writes}
 use Rattle.cdi_item.specs.Items as item
 use Rattle.cdi_item.specs.Bits.{powerFromSetting, lineMaskFromSetting, latchMaskFromSetting, eventFlag}
 use Rattle.cdi_command.specs.declared.Index.{Index}
@@ -18,7 +18,6 @@ use Rattle.cdi_state.specs.declared.HardwareSelection.{HardwareSelection}
 use Rattle.cdi_state.specs.declared.Stored.{Stored}
 use Rattle.cdi_state.specs.declared.ModuleState.{ModuleState}
 use Rattle.cdi_state.specs.State.{settingBytes, place, inputBytes, slotBytes, inputAt, noSlot}
-use Rattle.cdi_value.specs.declared.Shown.{Shown}
 
 -- the byte of an item in one copy of the settings; nothing for a code that is no setting's
 unfoldable pub settingValue : Settings → ℕ → List ℕ
@@ -88,10 +87,11 @@ valueRoom (ProgramIndexed x i v) = 0
 valueRoom SetDefault = 0
 valueRoom EraseAll = 0
 
-abbrev pub shownBytes : Shown → List ℕ
-shownBytes x = take (x .length) (x .bytes)
+-- nothing is read into less room than the longest value has
+abbrev pub valueInto : (room : ℕ) → ModuleState → Command → List ℕ
+valueInto room s c = cond (ltb room valueMax) [] (valueRead s c)
 
--- its bytes stand first, and are no more than there is room for; what stands behind them is free
-pub record Shows (room : ℕ) (value : List ℕ) (x : Shown) : Type 0 where
-  pub few : x .length ≤ room
-  pub front : shownBytes x ≡ value
+-- a value written over the front of a buffer, and no more bytes than there is room for
+pub record Shows (room : ℕ) (value before after : List ℕ) (told : ℕ) : Type 0 where
+  pub few : told ≤ room
+  pub writes : Writes value before after told

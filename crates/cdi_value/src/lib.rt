@@ -5,7 +5,7 @@ ghost use mathlib.Core.List.{[], _∷_};
 ghost use Prim.Native.Nat.{_≤_};
 ghost use lib.ListN.{length, take};
 ghost use Rattle.cdi_item.specs.Items.{rowLength};
-ghost use Rattle.cdi_value.specs.Value.{nameShown, settingValue, statusShown, plainValue, rowValue, valueRead, valueMax, valueRoom, Shows};
+ghost use Rattle.cdi_value.specs.Value.{nameShown, settingValue, statusShown, plainValue, rowValue, valueInto, valueMax, valueRoom, Shows};
 use cdi_command::Command;
 use cdi_command::Index;
 use cdi_item::NAME_LENGTH;
@@ -25,27 +25,12 @@ const LINE_MASK_FROM_SETTING: u8 = 0x08;
 
 const LATCH_MASK_FROM_SETTING: u8 = 0x10;
 
-// A value that is read: its bytes stand first, and what stands behind them is of no account.
-pub struct Shown {
-    pub bytes: [u8; NAME_LENGTH],
-    pub length: usize,
-}
-
-impl Shown {
-    // What a command that reads nothing shows.
-    pub const NOTHING: Shown = Shown {
-        bytes: [0; NAME_LENGTH],
-        length: 0,
-    };
-}
-
-fn show(source: &[u8]) -> Shown
-    requires { ⌜ length (now source) ≤ valueMax ⌝ }
-    ensures { λ r. ⌜ Shows (length (now (source .entry))) (now (source .entry)) r ⌝ }
+// Each function below writes a value over the front of `out`, and returns how many bytes that is.
+fn show(source: &[u8], out: &mut [u8]) -> usize
+    requires { ⌜ length (now source) ≤ length (now out) ⌝ }
+    ensures { λ r. ⌜ Shows (length (now (source .entry))) (now (source .entry)) (now (out .entry)) (now (out .exit)) r ⌝ }
 {
-    let mut bytes = [0u8; NAME_LENGTH];
-    let length = bytes::copy(source, &mut bytes);
-    Shown { bytes, length }
+    bytes::copy(source, out)
 }
 
 // How many bytes of a name are shown: those before its first 00, and that one.
@@ -104,79 +89,79 @@ fn status(
     [first, power, line, latch]
 }
 
-fn show_name(name: [u8; NAME_LENGTH]) -> Shown
-    ensures { λ r. ⌜ Shows valueMax (nameShown name) r ⌝ }
+fn show_name(name: [u8; NAME_LENGTH], out: &mut [u8]) -> usize
+    requires { ⌜ valueMax ≤ length (now out) ⌝ }
+    ensures { λ r. ⌜ Shows valueMax (nameShown name) (now (out .entry)) (now (out .exit)) r ⌝ }
 {
     let length = name_length(name);
-    Shown {
-        bytes: name,
-        length,
-    }
+    show(&name[0..length], out)
 }
 
-fn show_byte(byte: u8) -> Shown
-    ensures { λ r. ⌜ Shows valueMax (byte ∷ []) r ⌝ }
+fn show_byte(byte: u8, out: &mut [u8]) -> usize
+    requires { ⌜ valueMax ≤ length (now out) ⌝ }
+    ensures { λ r. ⌜ Shows valueMax (byte ∷ []) (now (out .entry)) (now (out .exit)) r ⌝ }
 {
-    let mut bytes = [0u8; NAME_LENGTH];
-    bytes[0] = byte;
-    Shown { bytes, length: 1 }
+    out[0] = byte;
+    1
 }
 
 // The byte of an item in one copy of the settings; nothing for a code that is no setting's.
-fn show_setting(settings: Settings, item: u8) -> Shown
-    ensures { λ r. ⌜ Shows valueMax (settingValue settings item) r ⌝ }
+fn show_setting(settings: Settings, item: u8, out: &mut [u8]) -> usize
+    requires { ⌜ valueMax ≤ length (now out) ⌝ }
+    ensures { λ r. ⌜ Shows valueMax (settingValue settings item) (now (out .entry)) (now (out .exit)) r ⌝ }
 {
     if item == code::LINE_MASK {
-        return show_byte(settings.line_mask);
+        return show_byte(settings.line_mask, out);
     }
     if item == code::LATCH_MASK {
-        return show_byte(settings.latch_mask);
+        return show_byte(settings.latch_mask, out);
     }
     if item == code::TX_POWER {
-        return show_byte(settings.tx_power);
+        return show_byte(settings.tx_power, out);
     }
     if item == code::CONTROL_SOURCE {
-        return show_byte(settings.control_source);
+        return show_byte(settings.control_source, out);
     }
     if item == code::MESSAGE_SELECT {
-        return show_byte(settings.message_select);
+        return show_byte(settings.message_select, out);
     }
     if item == code::INTERRUPT_MASK {
-        return show_byte(settings.interrupt_mask);
+        return show_byte(settings.interrupt_mask, out);
     }
-    Shown::NOTHING
+    0
 }
 
 // The value of an item that has no index, its settings from one copy.
-fn read_plain(state: ModuleState, settings: Settings, item: u8) -> Shown
-    ensures { λ r. ⌜ Shows valueMax (plainValue state settings item) r ⌝ }
+fn read_plain(state: ModuleState, settings: Settings, item: u8, out: &mut [u8]) -> usize
+    requires { ⌜ valueMax ≤ length (now out) ⌝ }
+    ensures { λ r. ⌜ Shows valueMax (plainValue state settings item) (now (out .entry)) (now (out .exit)) r ⌝ }
 {
     if item == code::NAME {
         let name = state.stored.name;
-        return show_name(name);
+        return show_name(name, out);
     }
     if item == code::FIRMWARE {
         let firmware = state.stored.firmware;
-        return show(&firmware);
+        return show(&firmware, out);
     }
     if item == code::SERIAL {
         let serial = state.stored.serial;
-        return show(&serial);
+        return show(&serial, out);
     }
     if item == code::ADDRESS {
         let address = state.stored.address;
-        return show(&address);
+        return show(&address, out);
     }
     if item == code::LINES {
         let lines = state.live.lines;
-        return show(&lines);
+        return show(&lines, out);
     }
     if item == code::RSSI {
         let rssi = state.live.rssi;
-        return show(&rssi);
+        return show(&rssi, out);
     }
     if item == code::LADJ {
-        return show_byte(state.live.ladj);
+        return show_byte(state.live.ladj, out);
     }
     if item == code::STATUS {
         let bytes = status(
@@ -185,47 +170,62 @@ fn read_plain(state: ModuleState, settings: Settings, item: u8) -> Shown
             state.live.flags,
             state.live.events,
         );
-        return show(&bytes);
+        return show(&bytes, out);
     }
     if item == code::EVENTS {
-        return show_byte(state.live.events);
+        return show_byte(state.live.events, out);
     }
-    show_setting(settings, item)
+    show_setting(settings, item, out)
 }
 
 // A row of an indexed item: slots count from 0, inputs from 1. Nothing where there is no such row.
-fn read_row(stored: Stored, settings: Settings, index: Index) -> Shown
-    ensures { λ r. ⌜ Shows rowLength (rowValue stored settings index) r ⌝ }
+fn read_row(stored: Stored, settings: Settings, index: Index, out: &mut [u8]) -> usize
+    requires { ⌜ rowLength ≤ length (now out) ⌝ }
+    ensures { λ r. ⌜ Shows rowLength (rowValue stored settings index) (now (out .entry)) (now (out .exit)) r ⌝ }
 {
     match index {
         Index::Slot(at) => {
             if !cdi_item::is_slot_index(at.0) {
-                return Shown::NOTHING;
+                return 0;
             }
             let slot = stored.slots[at.0 as usize];
             let row = slot.bytes();
-            show(&row)
+            show(&row, out)
         }
         Index::Input(number) => {
             if !cdi_item::is_input_number(number.0) {
-                return Shown::NOTHING;
+                return 0;
             }
             let input = settings.analog_inputs[(number.0 - 1) as usize];
             let row = input.bytes();
-            show(&row)
+            show(&row, out)
         }
     }
 }
 
-// What a command reads: Read the working copy, Read NV the stored one, any other command nothing.
-pub fn read(state: ModuleState, command: Command) -> Shown
-    ensures { λ r. ⌜ Shows (valueRoom command) (valueRead state command) r ⌝ }
+// Writes what a command reads over the front of `out`, and returns how many bytes that is: Read the working copy, Read NV the stored one,
+// any other command nothing. Where `out` has less room than the longest value, nothing is read.
+pub fn read(state: ModuleState, command: Command, out: &mut [u8]) -> usize
+    ensures { λ r. ⌜ Shows (valueRoom command) (valueInto (length (now (out .entry))) state command) (now (out .entry)) (now (out .exit)) r ⌝ }
 {
+    if out.len() < NAME_LENGTH {
+        return 0;
+    }
     match command {
-        Command::Read(item) => read_plain(state, state.working.settings, item.code),
-        Command::ReadIndexed(_, index) => read_row(state.stored, state.working.settings, index),
-        Command::ReadNv(item) => read_plain(state, state.stored.settings, item.code),
-        Command::ReadNvIndexed(_, index) => read_row(state.stored, state.stored.settings, index),
-        _ => Shown::NOTHING,
+        Command::Read(item) => read_plain(state, state.working.settings, item.code, out),
+        Command::ReadIndexed(_, index) => read_row(
+            state.stored,
+            state.working.settings,
+            index,
+            out,
+        ),
+        Command::ReadNv(item) => read_plain(state, state.stored.settings, item.code, out),
+        Command::ReadNvIndexed(_, index) => read_row(
+            state.stored,
+            state.stored.settings,
+            index,
+            out,
+        ),
+        _ => 0,
     }
 }

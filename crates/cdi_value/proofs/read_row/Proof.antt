@@ -1,11 +1,13 @@
 -- A number in range names the row that is read, and any other nothing.
 -- Assumes nothing.
 use Prim.Native.Nat.{_≤_}
-use mathlib.Core.Path.{refl, sym, _∙_}
+use mathlib.Core.Path.{_≡_, sym, _∙_}
 use native.Mathlib.Omega.{arith}
+use lib.ListN.{length}
 use borrow.Author.Tests.{ltb-true, not-true, not-false}
+use Rattle.cdi_item.specs.Items.{rowLength}
 use Rattle.cdi_item.proofs.Numbers.{input-bounds}
-use Rattle.cdi_value.proofs.Values.{input-at, shows-five}
+use Rattle.cdi_value.proofs.Values.{shows-more, shows-none, input-at}
 use borrow.Author.Needs.{needs}
 use Rattle.cdi_value.proofs.read_row.Statement.{statement}
 use Rattle.cdi_value.proofs.read_row.Tie as tie
@@ -27,7 +29,7 @@ returns : tie.Need-returns
 returns c =
     let n = c .before in
     let i = n .before .before in
-    rw (i .index .given .1, sym (n .is-slot-index .ensures) ∙ not-true _ (c .if1 .taken)) (record { few = omega arith; front = refl })
+    rw (i .index .given .1, sym (n .is-slot-index .ensures) ∙ not-true _ (c .if1 .taken)) (shows-none _)
 
 cast-slot : tie.Need-cast-slot
 cast-slot c = search needs
@@ -59,7 +61,7 @@ returns-2 : tie.Need-returns-2
 returns-2 c =
     let n = c .before in
     let i = n .before .before in
-    rw (i .index2 .given .1, sym (n .is-input-number .ensures) ∙ not-true _ (c .if2 .taken)) (record { few = omega arith; front = refl })
+    rw (i .index2 .given .1, sym (n .is-input-number .ensures) ∙ not-true _ (c .if2 .taken)) (shows-none _)
 
 sub-input : tie.Need-sub-input
 sub-input c = in-range (c .before) .0
@@ -82,22 +84,32 @@ slice-aggregate-show-2 c = search needs
 show-requires-2 : tie.Need-show-requires-2
 show-requires-2 c κs = search needs
 
+same-length : tie.Need-same-length
+same-length c = search needs
+
 returns-3 : tie.Need-returns-3
 returns-3 c =
-    let b = c .before .before in
+    let k = c .before .before in
+    let b = k .before .before .before in
     let e = b .before .before .before in
     let n = e .before in
     let i = n .before .before in
-    rw (i .index .given .1, sym (n .is-slot-index .ensures) ∙ not-false _ (e .if1 .left)) (rw (b .bytes .ensures) at (shows-five (c .show .ensures) (search needs)))
+    let five : length (b .bytes .result) ≡ 5 = search needs in
+    rw (i .index .given .1, sym (n .is-slot-index .ensures) ∙ not-false _ (e .if1 .left)) (rw (b .bytes .ensures) at (shows-more {m = rowLength} (k .show .ensures) (omega arith)))
+
+same-length-2 : tie.Need-same-length-2
+same-length-2 c = search needs
 
 returns-4 : tie.Need-returns-4
 returns-4 c =
-    let b = c .before .before in
+    let k = c .before .before in
+    let b = k .before .before .before in
     let e = b .before .before .before in
     let n = e .before in
     let i = n .before .before in
-    rw (i .index2 .given .1, sym (n .is-input-number .ensures) ∙ not-false _ (e .if2 .left), input-at (i .before .before .args .t2) (i .index2 .given .0 .0 .0) (in-range e .0))
-    (rw (b .bytes2 .ensures) at (shows-five (c .show2 .ensures) (search needs)))
+    let five : length (b .bytes2 .result) ≡ 5 = search needs in
+    rw (i .index2 .given .1, sym (n .is-input-number .ensures) ∙ not-false _ (e .if2 .left), input-at (i .before .before .before .args .t2) (i .index2 .given .0 .0 .0) (in-range e .0))
+    (rw (b .bytes2 .ensures) at (shows-more {m = rowLength} (k .show2 .ensures) (omega arith)))
 
 pub read-row-spec : {M : Type 1} → statement M
 read-row-spec =
@@ -122,5 +134,7 @@ read-row-spec =
     bytes-requires-2
     slice-aggregate-show-2
     show-requires-2
+    same-length
     returns-3
+    same-length-2
     returns-4)
