@@ -2,7 +2,6 @@
 -- result by that decision. The contracts cite `step` and `resultOf`; the sequence theorem holds them against the reference model.
 use Prim.Native.Nat.{ℕ}
 use mathlib.Core.List.{List}
-use mathlib.Core.Path.{_≡_}
 use mathlib.Core.Bool.{Bool, cond}
 use lib.Dec.{ltb}
 use lib.ListN.{length}
@@ -48,9 +47,13 @@ stateBy s (refuse n) = s
 stateBy s (execute c) = stateAfter s c
 stateBy s executePowerUp = stateAtPowerUp s
 
--- the response to a command, which reads the state as the command found it
+-- the response to a command with a value, ...
+abbrev pub responseWith : Command → List ℕ → List ℕ
+responseWith c value = responseFrame (responsePayload (commandPayload c) value)
+
+-- ... which is read from the state as the command found it
 abbrev pub responseTo : ModuleState → Command → List ℕ
-responseTo s c = responseFrame (responsePayload (commandPayload c) (valueRead s c))
+responseTo s c = responseWith c (valueRead s c)
 
 -- the result by the decision: a refusal has the length 0 and writes nothing; a power-up is never decided on a block
 abbrev pub blockResult : ModuleState → List ℕ → Decision → StepResult
@@ -77,8 +80,3 @@ resultOf s x = resultBy s x (decide s x)
 abbrev pub respondedTo : ModuleState → Result Command → List ℕ → StepResult
 respondedTo s r response =
     cond (ltb (length response) responseBufferMin) (responded responseBufferShort 0 response) (blockResult s response (decided r))
-
--- what a writer of a response promises: p stands over the front of the buffer, and its length is told
-pub record Writes (p before after : List ℕ) (told : ℕ) : Type 0 where
-  pub size : told ≡ length p
-  pub over : after ≡ written before p

@@ -3,16 +3,19 @@
 mod response;
 
 ghost use mathlib.Core.Path.{_≡_};
+ghost use mathlib.Core.List.{[]};
 ghost use Prim.Native.Nat.{_≤_};
 ghost use lib.ListN.{length};
+ghost use Rattle.logic.specs.Written.{Writes};
 ghost use Rattle.cdi_command.specs.Command.{validatedResult};
 ghost use Rattle.cdi_command.specs.Payload.{responseBufferMin};
 ghost use Rattle.cdi_model.specs.Step.{request, command, powerUp, poweredUp, responded};
-ghost use Rattle.cdi_module.specs.Module.{decided, decideBlock, responseTo, respondedTo, Writes, step, resultOf};
+ghost use Rattle.cdi_module.specs.Module.{decided, decideBlock, responseWith, responseTo, respondedTo, step, resultOf};
 use cdi_command::Command;
 use cdi_command::Validated;
 use cdi_frame::FrameRead;
 use cdi_frame::WAKE_LIMIT;
+use cdi_item::NAME_LENGTH;
 use cdi_state::ModuleState;
 use refusal::INVALID;
 use refusal::NONE;
@@ -58,20 +61,37 @@ pub fn decide(valid: bool, room: usize, block: &[u8]) -> Validated
     }
 }
 
-// Writes the response to an accepted command over the front of `response`, and returns its length. A command that stores reads nothing,
-// so the state is handed on, and copied, for the reads alone.
-fn write_accepted(state: ModuleState, command: Command, response: &mut [u8]) -> usize
+// Writes the response to a command that reads nothing over the front of `response`, and returns its length.
+fn write_ack(command: Command, response: &mut [u8]) -> usize
+    requires { ⌜ responseBufferMin ≤ length (now response) ⌝ }
+    ensures { λ r. ⌜ Writes (responseWith command []) (now (response .entry)) (now (response .exit)) r ⌝ }
+{
+    let payload = cdi_command::payload_of(command);
+    let size = payload.length;
+    response::write_response(&payload.bytes, size, b"", 0, response)
+}
+
+// Writes the response to a command with the value that it reads.
+fn write_read(state: ModuleState, command: Command, response: &mut [u8]) -> usize
     requires { ⌜ responseBufferMin ≤ length (now response) ⌝ }
     ensures { λ r. ⌜ Writes (responseTo state command) (now (response .entry)) (now (response .exit)) r ⌝ }
 {
     let payload = cdi_command::payload_of(command);
     let size = payload.length;
+    let mut value = [0u8; NAME_LENGTH];
+    let count = cdi_value::read(state, command, &mut value);
+    response::write_response(&payload.bytes, size, &value, count, response)
+}
+
+// Writes the response to an accepted command. A command that stores reads nothing, so the state is handed on for the reads alone.
+fn write_accepted(state: ModuleState, command: Command, response: &mut [u8]) -> usize
+    requires { ⌜ responseBufferMin ≤ length (now response) ⌝ }
+    ensures { λ r. ⌜ Writes (responseTo state command) (now (response .entry)) (now (response .exit)) r ⌝ }
+{
     if cdi_store::stores(Validated::Accepted(command)) {
-        return response::write_response(&payload.bytes, size, b"", 0, response);
+        return write_ack(command, response);
     }
-    let shown = cdi_value::read(state, command);
-    let length = shown.length;
-    response::write_response(&payload.bytes, size, &shown.bytes, length, response)
+    write_read(state, command, response)
 }
 
 // Responds to what was decided on a block, by the state as the block finds it. The response is written over the front of `response` and

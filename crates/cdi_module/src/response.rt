@@ -3,9 +3,9 @@
 ghost use mathlib.Core.List.{_∷_, _++_};
 ghost use Prim.Native.Nat.{_≤_};
 ghost use lib.ListN.{length, take};
+ghost use Rattle.logic.specs.Written.{Writes};
 ghost use Rattle.cdi_frame.specs.Layout.{responseFrame};
 ghost use Rattle.cdi_command.specs.Payload.{responsePayload, ackResponse, noError, responseBufferMin};
-ghost use Rattle.cdi_module.specs.Module.{Writes};
 use cdi_command::READ;
 use cdi_command::READ_NV;
 use cdi_frame::LENGTH_BASE;

@@ -1,8 +1,7 @@
 -- The library's copy writes the whole source over the front.
 -- Assumes nothing.
-use mathlib.Core.Path.{_∙_}
 use borrow.Author.Needs.{needs}
-use Rattle.logic.proofs.Written.{copied}
+use Rattle.logic.proofs.Written.{copies}
 use Rattle.cdi_module.proofs.response.put.Statement.{statement}
 use Rattle.cdi_module.proofs.response.put.Tie as tie
 
@@ -14,9 +13,8 @@ same-length c = search needs
 
 returns : tie.Need-returns
 returns c =
-    let k = c .before .before in
-    let a = k .before .before .before .before .args in
-    record { size = k .copy .ensures .0; over = k .copy .ensures .1 ∙ copied (a .out .now) (a .source .now) }
+    let k = c .before .before .copy in
+    copies _ _ _ _ (k .ensures .0) (k .ensures .1)
 
 pub put-spec : {M : Type 1} → statement M
 put-spec = tie.close (tie.spec copy-requires same-length returns)
