@@ -626,8 +626,9 @@ def check_neighbours(numbers):
 C_SOURCE, REPLAY_SOURCE = "crates/cdi_c/src/lib.rt", "crates/replay/src/main.rt"
 BEHIND = {
     ("cdi_module", "execute"): OWN["cdi_execute"],
-    ("cdi_module", "respond"): OWN["cdi_execute"],
-    ("cdi_module", "respond_known"): OWN["cdi_execute"],
+    ("cdi_module", "decide"): OWN["cdi_execute"],
+    # any other number is handed to it
+    ("cdi_module", "respond"): {1},
     ("cdi_module", "power_up"): OWN["cdi_power_up"],
     ("cdi_image", "save"): OWN["cdi_save"],
     ("cdi_image", "load"): OWN["cdi_load"],

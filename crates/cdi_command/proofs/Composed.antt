@@ -9,7 +9,8 @@ use Rattle.cdi_item.specs.declared.Item.{Item}
 use Rattle.cdi_item.specs.declared.Value.{Value}
 use Rattle.cdi_item.specs.Values.{valueBytes}
 use Rattle.cdi_command.specs.declared.Payload.{Payload}
-use Rattle.cdi_command.specs.Payload.{valueIn, Carries}
+use Rattle.cdi_command.specs.Payload.{valueIn}
+use Rattle.cdi_command.specs.Carried.{Carries}
 use Rattle.cdi_command.proofs.Accepted.{value-short}
 
 module _ (x : Item) (v : Value) where

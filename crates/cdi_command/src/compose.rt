@@ -2,7 +2,8 @@
 ghost use mathlib.Core.Path.{_≡_};
 ghost use mathlib.Core.List.{[], _∷_};
 ghost use lib.ListN.{length};
-ghost use Rattle.cdi_command.specs.Payload.{indexByte, valueIn, Carries};
+ghost use Rattle.cdi_command.specs.Payload.{indexByte, valueIn};
+ghost use Rattle.cdi_command.specs.Carried.{Carries};
 use super::Index;
 use super::Payload;
 use cdi_item::Item;
