@@ -8,7 +8,6 @@ use lib.Seq.{take-append-le, take-append-add, take-at}
 use Rattle.cdi_item.specs.declared.Item.{Item}
 use Rattle.cdi_item.specs.declared.Value.{Value}
 use Rattle.cdi_item.specs.Values.{valueBytes}
-use Rattle.cdi_command.specs.declared.Payload.{Payload}
 use Rattle.cdi_command.specs.Payload.{valueIn}
 use Rattle.cdi_command.specs.Carried.{Carries}
 use Rattle.cdi_command.proofs.Accepted.{value-short}

@@ -6,6 +6,8 @@ ghost use Rattle.cdi_command.specs.Payload.{indexByte, valueIn};
 ghost use Rattle.cdi_command.specs.Carried.{Carries};
 use super::Index;
 use super::Payload;
+use super::on_item::PLAIN_VALUE;
+use super::on_item::ROW_VALUE;
 use cdi_item::Item;
 use cdi_item::ROW_LENGTH;
 use cdi_item::Value;
@@ -75,7 +77,7 @@ pub(crate) fn store(code: u8, item: Item, value: Value) -> Payload
             value.byte4,
             0,
         ],
-        length: 2 + value_length(item, value),
+        length: PLAIN_VALUE + value_length(item, value),
     }
 }
 
@@ -95,6 +97,6 @@ pub(crate) fn store_row(code: u8, item: Item, index: Index, value: Value) -> Pay
             value.byte3,
             value.byte4,
         ],
-        length: 3 + value_length(item, value),
+        length: ROW_VALUE + value_length(item, value),
     }
 }

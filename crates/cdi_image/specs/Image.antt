@@ -1,5 +1,5 @@
 -- Document 01, "Command writer and stored image": the image of the stored part, what Save writes and what Load gives.
-use Prim.Native.Nat.{ℕ, zero, suc, _+_, _-_}
+use Prim.Native.Nat.{ℕ, zero, suc, _+_}
 use mathlib.Core.List.{List, [], _∷_, _++_, flatMap}
 use mathlib.Core.Bool.{cond, not}
 use lib.Dec.{eqb}

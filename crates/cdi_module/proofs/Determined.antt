@@ -1,4 +1,4 @@
--- The contract of `respond` determines what it tells of the command: no two answers have one decision.
+-- The contract of `decide` determines its answer: no two answers have one decision.
 -- Assumes nothing.
 use mathlib.Core.Path.{_≡_}
 use Rattle.cdi_command.specs.declared.Validated.{Validated}

@@ -34,8 +34,8 @@ response-fits EraseAll v n l h = omega arith
 module _ (c : Command) (x : Payload) (is : Carries (commandPayload c) x) (full : length (x .bytes) ≡ payloadMax)
     (v : List ℕ) (n : ℕ) (short : length v ≤ n) (few : n ≤ valueRoom c)
   where
-    pub composed : (1 ≤ x .length) × (x .length ≤ length (x .bytes)) × (n ≤ valueMax)
+    pub composed-fits : (1 ≤ x .length) × (x .length ≤ length (x .bytes)) × (n ≤ valueMax)
         × (length (responseFrame (responsePayload (take (x .length) (x .bytes)) v)) ≤ responseBufferMin)
-    composed =
+    composed-fits =
         let f = response-fits c v n short few in
         (omega (arith, is .size, f .0), omega (arith, is .size, payload-bounds c .1), f .1, rw (is .front) (f .2))

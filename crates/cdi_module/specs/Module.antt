@@ -1,5 +1,6 @@
 -- Document 01, "Numbers that a refusal carries" (the unit, power-up): what the module decides on a step, and the state and the
--- result by that decision. The contracts cite `step` and `resultOf`; the sequence theorem holds them against the reference model.
+-- result by that decision. The contracts of the entries cite `step` and `resultOf`; the sequence theorem holds them against the reference model. Those of
+-- the functions that they are made of cite `decideBlock` and `respondedTo`.
 use Prim.Native.Nat.{ℕ}
 use mathlib.Core.List.{List}
 use mathlib.Core.Bool.{Bool, cond}
@@ -16,7 +17,7 @@ use Rattle.cdi_state.specs.declared.ModuleState.{ModuleState}
 use Rattle.cdi_valid.specs.Valid.{isValid}
 use Rattle.cdi_store.specs.Store.{stateAfter, stateAtPowerUp}
 use Rattle.cdi_value.specs.Value.{valueRead}
-use Rattle.cdi_model.specs.Step.{Request, Step, powerUp, command, StepResult, poweredUp, responded}
+use Rattle.cdi_model.specs.Step.{Step, powerUp, command, StepResult, poweredUp, responded}
 
 pub data Decision : Type 0 where
   refuse : ℕ → Decision

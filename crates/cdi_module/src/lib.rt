@@ -40,7 +40,8 @@ pub struct PowerUp {
 }
 
 // Decides on a command block: its command, or the number of its refusal. `valid` tells whether the state is valid, and `room` how many
-// bytes the response buffer has. No step changes whether a state is valid, so a caller that runs many blocks asks once.
+// bytes the response buffer has that `respond` is to be handed. No step changes whether a state is valid, so a caller that runs many
+// blocks asks once.
 pub fn decide(valid: bool, room: usize, block: &[u8]) -> Validated
     ensures { λ r. ⌜ decided (validatedResult r) ≡ decideBlock valid room (now (block .entry)) ⌝ }
 {
@@ -95,7 +96,8 @@ fn write_accepted(state: ModuleState, command: Command, response: &mut [u8]) -> 
 }
 
 // Responds to what was decided on a block, by the state as the block finds it. The response is written over the front of `response` and
-// the bytes after it stay. A refusal changes no byte of it, and a buffer that is too short for the longest response is refused.
+// the bytes after it stay. A refusal changes no byte of it, and its number is passed on, whatever it is. A buffer that is too short for the
+// longest response is refused.
 pub fn respond(state: ModuleState, validated: Validated, response: &mut [u8]) -> Outcome
     ensures { λ r. ⌜ responded (r .refusal) (r .length) (now (response .exit)) ≡ respondedTo state (validatedResult validated) (now (response .entry)) ⌝ }
 {

@@ -1,4 +1,4 @@
-// Responses: document 01, "Frame" (answers). `write_response` writes the frame, and has its payload written by the functions above it,
+// Responses: document 01, "Frame" (answers). `write_frame` writes the frame, and has its payload written by the functions above it,
 // which see only the part of the buffer behind the frame's first bytes.
 ghost use mathlib.Core.List.{_∷_, _++_};
 ghost use Prim.Native.Nat.{_≤_};
@@ -83,7 +83,8 @@ fn write_frame(payload: &[u8], value: &[u8], response: &mut [u8]) -> usize
     PAYLOAD_START + length
 }
 
-// The same, by the first `size` bytes of a payload and the first `count` of a value.
+// The same, by the first `size` bytes of a payload and the first `count` of a value: a caller can lend an array of a struct as a whole, and
+// not a part of it.
 pub(crate) fn write_response(
     payload: &[u8],
     size: usize,

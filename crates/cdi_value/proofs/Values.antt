@@ -1,4 +1,4 @@
--- A name as it is shown, the row of an input, a value that fits, and what is read where nothing is.
+-- A name as it is shown, the row of an input, a value that fits, and that a command which is no read reads nothing.
 -- Assumes nothing.
 use Prim.Native.Nat.{ℕ, zero, suc, _+_, _-_, _<_, _≤_}
 use mathlib.Core.Path.{_≡_, refl}

@@ -69,7 +69,7 @@ valueRead s (ProgramIndexed x i v) = []
 valueRead s SetDefault = []
 valueRead s EraseAll = []
 
--- ---- a value as it is handed on
+-- ---- a value as it is written
 -- the longest value is a name
 abbrev pub valueMax : ℕ
 valueMax = item.nameLength
@@ -91,7 +91,7 @@ valueRoom EraseAll = 0
 abbrev pub valueInto : (room : ℕ) → ModuleState → Command → List ℕ
 valueInto room s c = cond (ltb room valueMax) [] (valueRead s c)
 
--- a value written over the front of a buffer, and no more bytes than there is room for
-pub record Shows (room : ℕ) (value before after : List ℕ) (told : ℕ) : Type 0 where
-  pub few : told ≤ room
+-- a value written over the front of a buffer, of so many bytes at most
+pub record Shows (most : ℕ) (value before after : List ℕ) (told : ℕ) : Type 0 where
+  pub few : told ≤ most
   pub writes : Writes value before after told

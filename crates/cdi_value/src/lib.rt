@@ -25,7 +25,7 @@ const LINE_MASK_FROM_SETTING: u8 = 0x08;
 
 const LATCH_MASK_FROM_SETTING: u8 = 0x10;
 
-// Each function below writes a value over the front of `out`, and returns how many bytes that is.
+// Each function that has an `out` writes a value over its front, and returns how many bytes that is.
 fn show(source: &[u8], out: &mut [u8]) -> usize
     requires { ⌜ length (now source) ≤ length (now out) ⌝ }
     ensures { λ r. ⌜ Shows (length (now (source .entry))) (now (source .entry)) (now (out .entry)) (now (out .exit)) r ⌝ }

@@ -25,7 +25,7 @@ use contract.Lifetimes.{Lfts}
 use contract.Running.{GhostRules, Running, givenOf, tables, tablesOf}
 use types.Kit.{Given, Item, ‵, raw, _⊛_, ⋆, some, later, nth, put, push, ++⊢, ⊢++, Post, atRet, Goal, Soaks, prop, runs, lands, allocs, params′, frees, aim, Seq, Sq, Step, step, _$_, _∵_, !, qed, by}
 use types.Kit.{move, keep, drop, use1, split, join, pick, regoal, fsplit, fsplit3, fjoin, fjoin3, feqI, frame, await, done}
-use types.Run.{Reads, Opd, Opds, Rv, Walks as Places, Finds, look, look-raw, init, store-raw, forget, stop, hop, fld, from, load, addr, of-opd, and-then, no-more, assigns, land, first, enter, free1}
+use types.Run.{Reads, Opd, Opds, Rv, Walks as Places, Finds, look, look-raw, init, store-raw, forget, stop, hop, fld, from, load, addr, of-opd, and-then, no-more, assigns, land, enter, free1}
 use types.Part.{Part, agg, whole, sub, look-in}
 use types.SemTy.{Body as Borrowed}
 use sound.WpLaws.{FmC, fmOf, WpFn-mono}

@@ -6,7 +6,6 @@ use mathlib.Core.Logic.{_⊎_}
 use mathlib.Core.List.{List, _++_}
 use lib.Dec.{ltb}
 use lib.ListN.{length, take, drop}
-use Rattle.logic.specs.Lists.{part, between}
 use Rattle.cdi_state.specs.declared.ModuleState.{ModuleState}
 use Rattle.replay_text.specs.Replay.{linesText, linesState}
 use Rattle.replay_text.specs.Answered.{printedMax, withLineFeeds, answered}

@@ -90,7 +90,8 @@ fn answer_line(state: ModuleState, read: HexLine, validated: Validated, out: &mu
 }
 
 // Answers the lines of `input` that a line feed ends, from the first on, over the front of `output`, each as long as there is room
-// for the longest. No line changes whether the state is valid, so that is asked once. What stands behind the last line feed is left, and so are the bytes of `output` behind the text.
+// for the longest. No line changes whether the state is valid, so that is asked once. What stands behind the last line feed is left, and
+// so are the bytes of `output` behind the text.
 pub fn replay_lines(state: ModuleState, input: &[u8], output: &mut [u8]) -> Progress
     ensures { λ r. ⌜ (r ≡ progress state (answered state (now (input .entry)) (length (now (output .entry)))))
         × (now (output .exit) ≡ written (now (output .entry)) (linesText state (answered state (now (input .entry)) (length (now (output .entry)))))) ⌝ }

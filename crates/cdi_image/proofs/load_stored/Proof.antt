@@ -1,7 +1,6 @@
 -- After a power-up the stored part decides whether the state is valid, so a part that is not valid is refused, and any other is loaded.
 -- Assumes nothing.
 use mathlib.Core.Path.{_≡_, refl, sym, ap, _∙_}
-use mathlib.Core.Bool.{Bool, true, false}
 use borrow.Author.Tests.{not-true, not-false}
 use Rattle.refusal.specs.Refusal.{accepted}
 use Rattle.cdi_state.specs.declared.ModuleState.{ModuleState}

@@ -2,7 +2,7 @@
 -- Assumes nothing.
 use mathlib.Core.List.{[]}
 use native.Mathlib.Omega.{arith}
-use Rattle.cdi_module.proofs.Responses.{composed}
+use Rattle.cdi_module.proofs.Responses.{composed-fits}
 use borrow.Author.Needs.{needs}
 use Rattle.cdi_module.proofs.write_ack.Statement.{statement}
 use Rattle.cdi_module.proofs.write_ack.Tie as tie
@@ -16,7 +16,7 @@ slice-aggregate-write-response c = search needs
 write-response-requires : tie.Need-write-response-requires
 write-response-requires c κs =
     let p = c .before .before .before .before .before in
-    let g = composed (p .before .before .args .command) (p .payload-of .result) (p .payload-of .ensures) (search needs) [] 0 (omega arith) (omega arith) in
+    let g = composed-fits (p .before .before .args .command) (p .payload-of .result) (p .payload-of .ensures) (search needs) [] 0 (omega arith) (omega arith) in
     (g .0, g .1, omega arith, g .3, search needs)
 
 same-length : tie.Need-same-length

@@ -6,7 +6,7 @@ use native.Mathlib.Omega.{arith}
 use lib.ListN.{length, take, length-take}
 use Rattle.logic.proofs.Written.{writes-front}
 use Rattle.cdi_value.specs.Value.{valueMax}
-use Rattle.cdi_module.proofs.Responses.{composed}
+use Rattle.cdi_module.proofs.Responses.{composed-fits}
 use borrow.Author.Needs.{needs}
 use Rattle.cdi_module.proofs.write_read.Statement.{statement}
 use Rattle.cdi_module.proofs.write_read.Tie as tie
@@ -30,7 +30,7 @@ write-response-requires c κs =
     let n = k .read .result in
     let value = k .read .last .1 .1 .0 in
     let kept : length value ≡ valueMax = search needs in
-    let g = composed (p .before .before .args .command) (p .payload-of .result) (p .payload-of .ensures) (search needs)
+    let g = composed-fits (p .before .before .args .command) (p .payload-of .result) (p .payload-of .ensures) (search needs)
     (take n value) n (rw length-take (min-le-left n (length value))) (k .read .ensures .few) in
     (g .0, g .1, omega (arith, kept, g .2), g .3, search needs)
 

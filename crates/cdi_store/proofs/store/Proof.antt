@@ -86,11 +86,9 @@ with-value-requires-5 c κs = search needs
 with-value-requires-6 : tie.Need-with-value-requires-6
 with-value-requires-6 c κs = search needs
 
--- /work/dev/target/rlib/cdi_state.rlib/interface/lang/src/lib.rt:23:106
 enum-told-3 : tie.Need-enum-told-3
 enum-told-3 c = search needs
 
--- /work/dev/target/rlib/cdi_state.rlib/interface/lang/src/lib.rt:18:43
 enum-told-4 : tie.Need-enum-told-4
 enum-told-4 c = search needs
 

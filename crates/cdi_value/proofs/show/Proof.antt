@@ -1,7 +1,7 @@
 -- The library's copy writes the whole source over the front.
 -- Assumes nothing.
 use native.Mathlib.Omega.{arith}
-use Rattle.logic.proofs.Written.{copies}
+use Rattle.logic.proofs.Written.{writes-copied}
 use borrow.Author.Needs.{needs}
 use Rattle.cdi_value.proofs.show.Statement.{statement}
 use Rattle.cdi_value.proofs.show.Tie as tie
@@ -15,7 +15,7 @@ same-length c = search needs
 returns : tie.Need-returns
 returns c =
     let k = c .before .before in
-    record { few = omega (arith, k .copy .ensures .0); writes = copies _ _ _ _ (k .copy .ensures .0) (k .copy .ensures .1) }
+    record { few = omega (arith, k .copy .ensures .0); writes = writes-copied _ _ _ _ (k .copy .ensures .0) (k .copy .ensures .1) }
 
 pub show-spec : {M : Type 1} → statement M
 show-spec = tie.close (tie.spec copy-requires same-length returns)
