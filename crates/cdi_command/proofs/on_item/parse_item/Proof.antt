@@ -25,9 +25,6 @@ on-plain code s item h = simp h
 has-index : (item : Item) (code n : ℕ) → item .indexed ≡ true → n ≡ expectedLength item code → 3 ≤ n
 has-index item code n h e = rw e (rw h (choice (λ (m : ℕ). 3 ≤ m) (carriesValue code) (λ _. omega arith) (λ _. omega arith)))
 
-mark-of-requires : tie.Need-mark-of-requires
-mark-of-requires c κs = search needs
-
 permits-requires : tie.Need-permits-requires
 permits-requires c κs = search needs
 
@@ -36,12 +33,12 @@ expected-length-requires c κs = search needs
 
 -- the definition, by what the calls gave
 first : (x : tie.After-expected-length) →
-    let a = x .before .before .before .before .args in
+    let a = x .before .before .before .args in
     parseItem (a .code) (a .payload .now) (a .item) ≡
     cond (not (x .before .permits .result)) (refused notPermitted)
     (cond (not (eqb (length (a .payload .now)) (x .expected-length .result))) (refused wrongLength) (parseIndex (a .code) (a .payload .now) (a .item)))
 unfolding parseItem
-first x = simp (x .before .before .mark-of .ensures, x .before .permits .ensures, x .expected-length .ensures)
+first x = simp (sym (x .before .before .before .pre), x .before .permits .ensures, x .expected-length .ensures)
 
 returns : tie.Need-returns
 returns c = sym (first (c .before) ∙ simp (c .if1 .taken))
@@ -53,7 +50,7 @@ parse-row-requires : tie.Need-parse-row-requires
 parse-row-requires c κs =
     let l = c .before in
     let x = l .before .before in
-    let a = x .before .before .before .before .args in
+    let a = x .before .before .before .args in
     (c .if3 .taken, has-index (a .item) (a .code) (length (a .payload .now)) (c .if3 .taken) (eqb-true _ _ (not-false _ (l .if2 .left)) ∙ x .expected-length .ensures))
 
 returns-3 : tie.Need-returns-3
@@ -69,14 +66,13 @@ returns-4 c =
     let e = c .before in
     let l = e .before in
     let x = l .before .before in
-    let a = x .before .before .before .before .args in
+    let a = x .before .before .before .args in
     simp (c .plain-command .ensures) (sym (first x ∙ simp (l .before .if1 .left, l .if2 .left) (on-plain (a .code) (a .payload .now) (a .item) (e .if3 .left))))
 
 pub parse-item-spec : {M : Type 1} → statement M
 parse-item-spec =
     tie.close
     (tie.spec
-    mark-of-requires
     permits-requires
     expected-length-requires
     returns
