@@ -1,6 +1,6 @@
 -- Document 01, "Numbers that a refusal carries" (the unit, power-up): what the module decides on a step, and the state and the
--- result by that decision. The contracts of the entries cite `step` and `resultOf`; the sequence theorem holds them against the reference model. Those of
--- the functions that they are made of cite `decideBlock` and `respondedTo`.
+-- result by that decision. The contracts of the entries cite `step` and `resultOf`; the sequence theorem holds them against the
+-- reference model. Those of the functions that the entries are made of cite `decideGiven` and `respondedTo`.
 use Prim.Native.Nat.{ℕ}
 use mathlib.Core.List.{List}
 use mathlib.Core.Bool.{Bool, cond}
@@ -33,14 +33,14 @@ decided (refused n) = refuse n
 unfoldable pub commandIn : List ℕ → Result Command
 commandIn block = andThen (readFrame wakeLimit block) (λ span. validatePayload (payloadIn block span))
 
--- refusals 1 and 2 stand before those of the block
-abbrev pub decideBlock : (valid : Bool) (room : ℕ) → List ℕ → Decision
-decideBlock valid room block = cond (ltb room responseBufferMin) (refuse responseBufferShort) (cond valid (decided (commandIn block)) (refuse invalid))
+-- refusals 1 and 2 stand before those of the block, given whether the state is valid and how long the response buffer is
+abbrev pub decideGiven : (valid : Bool) (room : ℕ) → List ℕ → Decision
+decideGiven valid room block = cond (ltb room responseBufferMin) (refuse responseBufferShort) (cond valid (decided (commandIn block)) (refuse invalid))
 
 -- of a power-up there is 2 alone
 unfoldable pub decide : ModuleState → Step → Decision
 decide s powerUp = cond (isValid s) executePowerUp (refuse invalid)
-decide s (command r) = decideBlock (isValid s) (length (r .response)) (r .block)
+decide s (command r) = decideGiven (isValid s) (length (r .response)) (r .block)
 
 -- the state by the decision: a refusal changes nothing
 abbrev pub stateBy : ModuleState → Decision → ModuleState

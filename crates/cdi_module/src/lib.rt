@@ -10,7 +10,7 @@ ghost use Rattle.logic.specs.Written.{Writes};
 ghost use Rattle.cdi_command.specs.Command.{validatedResult};
 ghost use Rattle.cdi_command.specs.Payload.{responseBufferMin};
 ghost use Rattle.cdi_model.specs.Step.{request, command, powerUp, poweredUp, responded};
-ghost use Rattle.cdi_module.specs.Module.{decided, decideBlock, responseWith, responseTo, respondedTo, step, resultOf};
+ghost use Rattle.cdi_module.specs.Module.{decided, decideGiven, responseWith, responseTo, respondedTo, step, resultOf};
 use cdi_command::Command;
 use cdi_command::Validated;
 use cdi_frame::FrameRead;
@@ -43,7 +43,7 @@ pub struct PowerUp {
 // bytes the response buffer has that `respond` is to be handed. No step changes whether a state is valid, so a caller that runs many
 // blocks asks once.
 pub fn decide(valid: bool, room: usize, block: &[u8]) -> Validated
-    ensures { λ r. ⌜ decided (validatedResult r) ≡ decideBlock valid room (now (block .entry)) ⌝ }
+    ensures { λ r. ⌜ decided (validatedResult r) ≡ decideGiven valid room (now (block .entry)) ⌝ }
 {
     if room < RESPONSE_BUFFER_MIN {
         return Validated::Refused(RESPONSE_BUFFER_SHORT);

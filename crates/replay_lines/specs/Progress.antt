@@ -13,7 +13,7 @@ use Rattle.refusal.specs.Refusal.{Result, none}
 use Rattle.cdi_command.specs.declared.Command.{Command}
 use Rattle.cdi_command.specs.Payload.{responseBufferMin}
 use Rattle.cdi_state.specs.declared.ModuleState.{ModuleState}
-use Rattle.cdi_module.specs.Module.{Decision, refuse, decideBlock, respondedTo}
+use Rattle.cdi_module.specs.Module.{Decision, refuse, decideGiven, respondedTo}
 use Rattle.replay_text.specs.Replay.{resultText, linesText, linesState}
 use Rattle.replay_text.specs.Answered.{printedMax, withLineFeeds}
 use Rattle.replay_lines.specs.declared.Progress.{Progress}
@@ -42,7 +42,7 @@ pub record Prints (text before after : List ℕ) (count : ℕ) : Type 0 where
 
 -- what is decided on a line: one that is not hex is no step, and stores nothing
 abbrev pub lineDecision : (valid : Bool) → Line → Decision
-lineDecision valid (block bytes) = decideBlock valid responseBufferMin bytes
+lineDecision valid (block bytes) = decideGiven valid responseBufferMin bytes
 lineDecision valid notHex = refuse none
 
 -- the text of what was decided on a block, ...
