@@ -1,19 +1,24 @@
 -- Which neighbours are apart, so that their exchange is more than a promise about nothing: refused steps, reads, writes of different
--- keys, the status and a setting that it does not show; and that the status and a setting which it shows are not.
+-- keys, the status and a setting that it does not show; and that the status and a setting which it shows are not. And for any two steps
+-- it is computed from the table, over the 68 cells, whether they are apart.
 -- Assumes nothing.
 use Prim.Native.Nat.{ℕ}
 use mathlib.Core.Path.{_≡_, refl, sym, subst, _∙_}
-use mathlib.Core.Bool.{Bool, true, false, _&&_, _||_, and-false, and-eq-true-iff, true≢false}
-use mathlib.Core.List.{List}
-use Rattle.logic.proofs.Choice.{by-cases, neither}
+use mathlib.Core.Bool.{Bool, true, false, not, _&&_, _||_, and-false, and-eq-true-iff, true≢false}
+use mathlib.Core.List.{List, [], _∷_}
+use Rattle.logic.specs.Lists.{all}
+use Rattle.logic.proofs.Choice.{by-cases, neither, implied, either}
 use Rattle.sequence.specs.Model.{Apart, next, accepts}
 use Rattle.cdi_model.specs.Cells.{working, controlSource, messageSelect, Key, setting, Cell, copyOf, isCell, same, sameKey}
 use Rattle.cdi_model.specs.Step.{Step}
 use Rattle.cdi_model.specs.Action.{Action, read, readNv, readStatus, write, program, setDefault, eraseAll}
 use Rattle.cdi_model.specs.Table.{Decision, execute, actionReads, actionStores, reads, stores}
 use Rattle.cdi_model.specs.Model.{Cells, decide, model}
+use Rattle.cdi_model.specs.Tight.{everyCell, isIn}
+use Rattle.cdi_model.specs.Apart.{leaves, areApart}
 use Rattle.cdi_model.proofs.Cells.{key-refl, same-eq}
-use Rattle.cdi_model.proofs.Lawful.{refused-stores-none, refused-touches-none}
+use Rattle.cdi_model.proofs.Lawful.{refused-stores-none, refused-touches-none, decision-touches-real}
+use Rattle.cdi_model.proofs.Tight.{every-cell}
 
 -- a refused step is apart from every step, before it and behind it
 pub refused-first : (s : Cells) (a b : Step) → accepts model s a ≡ false → Apart model s a b
@@ -111,3 +116,46 @@ module _ (s : Cells) (a b : Step) (p q : List ℕ) where
     write-not-apart first second h =
         let c : Cell = copyOf working (setting controlSource) in
         true≢false (sym (rw second) ∙ h .first-stores c (rw first))
+
+-- ---- computed
+-- what passes at each cell of a list passes at a cell that is in it
+at-cell : (ok : Cell → Bool) (l : List Cell) (c : Cell) → all ok l ≡ true → isIn c l ≡ true → ok c ≡ true
+at-cell ok [] c e is = cc
+at-cell ok (d ∷ l) c e is =
+    let both = and-eq-true-iff (ok d) (all ok l) .0 e in
+    either (same c d) (isIn c l) is (λ q. rw (same-eq c d q) (both .0)) (λ q. at-cell ok l c (both .1) q)
+
+at-all : (ok : Cell → Bool) → ((c : Cell) → ok c ≡ true) → (l : List Cell) → all ok l ≡ true
+at-all ok h [] = refl
+at-all ok h (c ∷ l) = and-eq-true-iff (ok c) (all ok l) .1 (h c, at-all ok h l)
+
+off-false : (t : Bool) → not t ≡ true → t ≡ false
+off-false true e = cc
+off-false false e = refl
+
+left : (p q : Bool) → (p ≡ true → q ≡ false) → not p || not q ≡ true
+left true q h = rw (h refl)
+left false q h = refl
+
+-- a cell that a step stores in is one of the 68
+stored-cell : (d : Decision) (c : Cell) → stores d c ≡ true → isIn c everyCell ≡ true
+stored-cell d c e = every-cell c (decision-touches-real d c (by-cases (reads d c) (λ q. rw q) (λ q. rw (q, e))))
+
+-- two steps are apart exactly where the test passes
+pub apart-is-computed : (s : Cells) (a b : Step)
+    → (areApart (decide s a) (decide (next model s a) b) ≡ true → Apart model s a b)
+    × (Apart model s a b → areApart (decide s a) (decide (next model s a) b) ≡ true)
+unfolding areApart
+apart-is-computed s a b =
+    let d = decide s a in
+    let e = decide (next model s a) b in
+    let ok : Cell → Bool = λ c. leaves d e c && leaves e d c in
+    let at : all ok everyCell ≡ true → (c : Cell) → isIn c everyCell ≡ true → (leaves d e c ≡ true) × (leaves e d c ≡ true) =
+    λ t c is. and-eq-true-iff (leaves d e c) (leaves e d c) .0 (at-cell ok everyCell c t is) in (
+      λ t. record {
+        first-stores = λ c p. off-false (reads e c || stores e c) (implied (stores d c) (not (reads e c || stores e c)) (at t c (stored-cell d c p) .0) p);
+        second-stores = λ c p. off-false (reads d c || stores d c) (implied (stores e c) (not (reads d c || stores d c)) (at t c (stored-cell e c p) .1) p);
+      },
+      λ h. at-all ok (λ c. and-eq-true-iff (leaves d e c) (leaves e d c) .1
+          (left (stores d c) (reads e c || stores e c) (h .first-stores c), left (stores e c) (reads d c || stores d c) (h .second-stores c))) everyCell,
+    )

@@ -130,7 +130,7 @@ lawful = record {
 
 -- ---- real cells
 -- a step touches real cells alone, ...
-decision-touches-real : (d : Decision) (c : Cell) → reads d c || stores d c ≡ true → isCell c ≡ true
+pub decision-touches-real : (d : Decision) (c : Cell) → reads d c || stores d c ≡ true → isCell c ≡ true
 unfolding reads stores
 decision-touches-real (refuse n) c e = cc
 decision-touches-real (execute payload a) c e =

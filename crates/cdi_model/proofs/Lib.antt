@@ -6,8 +6,8 @@ pub mod Validity
 pub mod Stored
 pub mod Lawful
 pub mod Numbers
-pub mod Apart
 pub mod Tight
+pub mod Apart
 pub mod Examples
 pub mod Witness
 pub mod Live

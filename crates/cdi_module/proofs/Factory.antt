@@ -1,15 +1,18 @@
--- The factory state's cells are those that the reference model has for it.
+-- The factory state's cells are those that the reference model has for it, and its arrays have their lengths.
 -- Assumes nothing.
 
 use mathlib.Core.Path.{_≡_, refl, ap}
 use mathlib.Core.Bool.{true, false, and-eq-true-iff}
 use borrow.Author.Tests.{ltb-true}
 use lib.ListN.{getD-replicate}
-use Rattle.cdi_state.specs.State.{slotBytes, noSlot, emptySlot, factoryState}
+use Rattle.cdi_state.specs.State.{slotBytes, noSlot, emptySlot, factoryState, ArrayLengths}
 use Rattle.cdi_model.specs.Cells.{nv, working, lineMask, latchMask, txPower, controlSource, messageSelect, interruptMask, setting, input, slot, address, name, firmware, serial, lines, rssi, ladj, events, flags, hardwarePower, hardwareLineMask, hardwareLatchMask, Cell, copyOf, single, isKey, isCell}
 use Rattle.cdi_model.specs.Factory.{factoryCells}
 use Rattle.cdi_model.proofs.Validity.{each-input}
 use Rattle.cdi_module.specs.Machine.{cells}
+
+pub factory-lengths : ArrayLengths factoryState
+factory-lengths = record { stored-inputs = refl; working-inputs = refl; slot-count = refl }
 
 pub factory-cells : (c : Cell) → isCell c ≡ true → cells factoryState c ≡ factoryCells c
 unfolding cells

@@ -9,7 +9,7 @@ use Rattle.sequence.specs.Machine.{results}
 use Rattle.hex_text.specs.Hex.{Line, block, notHex, hexLine}
 use Rattle.response_text.specs.Text.{printed}
 use Rattle.cdi_state.specs.declared.ModuleState.{ModuleState}
-use Rattle.cdi_state.specs.State.{factoryState, ArrayLengths}
+use Rattle.cdi_state.specs.State.{factoryState}
 use Rattle.cdi_valid.proofs.Laws.{factory-valid}
 use Rattle.cdi_model.specs.Step.{Step}
 use Rattle.cdi_model.specs.Model.{model}
@@ -17,7 +17,7 @@ use Rattle.cdi_model.specs.Factory.{factoryCells}
 use Rattle.cdi_model.proofs.Lawful.{results-by-real-cells}
 use Rattle.cdi_model.proofs.Examples.{factory-valid as factory-cells-valid}
 use Rattle.cdi_module.specs.Machine.{cells, machine}
-use Rattle.cdi_module.proofs.Factory.{factory-cells}
+use Rattle.cdi_module.proofs.Factory.{factory-cells, factory-lengths}
 use Rattle.cdi_module.proofs.Theorem.{sequence-theorem}
 use Rattle.cdi_module.proofs.Validity.{validity-agrees}
 use Rattle.replay_text.specs.Replay.{lines, lineText, lineState, linesText}
@@ -39,9 +39,6 @@ unfolding linesText texts
 machine-text s [] = refl
 machine-text s (l ∷ ls) =
     ap (λ (t : List ℕ). printed (lineText s (hexLine l)) ++ t) (machine-text (lineState s (hexLine l)) ls) ∙ first-text s (hexLine l) (map hexLine ls)
-
-factory-lengths : ArrayLengths factoryState
-factory-lengths = record { stored-inputs = refl; working-inputs = refl; slot-count = refl }
 
 -- the machine's results from the factory state are the model's from the factory cells
 factory-results : (xs : List Step) → results model machine factoryState xs ≡ modelResults model factoryCells xs
