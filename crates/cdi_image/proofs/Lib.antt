@@ -4,6 +4,7 @@ pub mod Cut
 pub mod Examples
 pub mod Fit
 pub mod Laws
+pub mod Moved
 pub mod Puts
 pub mod Rows
 pub mod Tests

@@ -11,8 +11,9 @@ use Rattle.refusal.specs.Refusal.{accepted}
 use Rattle.cdi_item.specs.Items.{inputCount, slotCount}
 use Rattle.cdi_state.specs.declared.Stored.{Stored}
 use Rattle.cdi_state.specs.declared.ModuleState.{ModuleState}
-use Rattle.cdi_state.specs.State.{factoryState, StoredLengths}
+use Rattle.cdi_state.specs.State.{defaultSettings, emptySlot, factoryState, StoredLengths}
 use Rattle.cdi_valid.specs.Valid.{isValid}
+use Rattle.cdi_store.specs.Store.{settingStored}
 use Rattle.cdi_model.specs.Cells.{nv, working, lineMask, latchMask, txPower, controlSource, messageSelect, interruptMask, setting, input, slot, address, Single, name, firmware, serial, lines, rssi, ladj, events, flags, hardwarePower, hardwareLineMask, hardwareLatchMask, Cell, copyOf, single}
 use Rattle.cdi_model.specs.Table.{powerUpStores}
 use Rattle.cdi_model.specs.Model.{powerUpGives}
@@ -117,3 +118,45 @@ pub record AfterLoad (s : ModuleState) (image : List ℕ) (t : ModuleState) : Ty
 
 abbrev pub LoadThenSave : Type 0
 LoadThenSave = (s : ModuleState) (image : List ℕ) (t : ModuleState) → loaded s image ≡ accepted t → AfterLoad s image t
+
+-- ---- both laws on bytes: a module in use is saved, and its image is loaded on another module
+-- a name, a pack in slot 39, and message select 03
+abbrev pub usedStored : Stored
+usedStored = record {
+  name = 0x41 ∷ 0x42 ∷ replicate 15 0x00;
+  firmware = factoryState .stored .firmware;
+  serial = factoryState .stored .serial;
+  address = factoryState .stored .address;
+  settings = settingStored defaultSettings 0x15 0x03;
+  slots = replicate 39 emptySlot ++ record { address = 0x01 ∷ 0x02 ∷ 0x03 ∷ 0x04 ∷ []; mask = 0x05 } ∷ [];
+}
+
+abbrev pub usedModule : ModuleState
+usedModule = withStored factoryState usedStored
+
+-- the other one has live values of its own, and is invalid: bit 3 of its flags is set
+abbrev pub otherModule : ModuleState
+otherModule = record {
+  stored = factoryState .stored;
+  working = factoryState .working;
+  live = record { lines = 0x5A ∷ 0xA5 ∷ []; rssi = 0x12 ∷ 0x34 ∷ []; ladj = 0x77; events = 0x06; flags = 0x08; hardware = factoryState .live .hardware };
+}
+
+pub record Moved : Type 0 where
+  pub image : List ℕ
+  pub after : ModuleState
+  pub is-saved : saved usedModule 249 ≡ accepted image
+  pub is-loaded : loaded otherModule image ≡ accepted after
+  -- what was stored is there
+  pub name-moved : cells after (single name) ≡ 0x41 ∷ 0x42 ∷ replicate 15 0x00
+  pub pack-moved : cells after (copyOf nv (slot 39)) ≡ 0x01 ∷ 0x02 ∷ 0x03 ∷ 0x04 ∷ 0x05 ∷ []
+  -- and in force: the module has powered up
+  pub setting-in-force : cells after (copyOf working (setting messageSelect)) ≡ 0x03 ∷ []
+  pub rssi-reset : cells after (single rssi) ≡ 0x80 ∷ 0x80 ∷ []
+  pub flags-reset : cells after (single flags) ≡ 0x00 ∷ []
+  -- what no image has is the other module's own
+  pub lines-left : cells after (single lines) ≡ 0x5A ∷ 0xA5 ∷ []
+  pub ladj-left : cells after (single ladj) ≡ 0x77 ∷ []
+  -- the state is valid, and saved again it gives the same image
+  pub is-valid : isValid after ≡ true
+  pub is-saved-again : saved after 249 ≡ accepted image
