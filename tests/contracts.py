@@ -26,6 +26,10 @@ def names_in(*parts):
     return sorted(os.listdir(folder)) if os.path.isdir(folder) else []
 
 
+def quoted(names):
+    return ", ".join(f"`{name}`" for name in names)
+
+
 def crates():
     """The crates in the order of crates.txt."""
     return [line.split(":")[0] for line in read("crates.txt").split("\n") if re.match(r"\w+:", line)]
@@ -217,8 +221,11 @@ def leaves(text, name):
 
 
 def subjects(conjunct, result, given):
-    """What a conjunct speaks of: the result, and the parameters that are written to."""
-    found = ["result"] if result in words_of(conjunct) else []
+    """What a conjunct speaks of: the result, with the fields that it names, and the parameters that are written to; where it speaks of
+    neither, the parameters."""
+    paths = re.findall(rf"(?<![\w.]){result}((?: \.\w+)*)(?!\w)", conjunct) if result else []
+    fields = [path.split(".")[-1] for path in paths]
+    found = ["result" + (f" ({quoted(dict.fromkeys(fields))})" if all(fields) else "")] if paths else []
     found += [f"`{name}`" for name, _ in given if leaves(conjunct, name)]
     return found or [f"`{name}`" for name, _ in given if name in words_of(conjunct)]
 
@@ -303,13 +310,18 @@ This file is generated from the sources by `{COMMAND}`; `tests/test_contracts.py
 that has public functions or edits.
 
 **Functions.** These are the functions that another crate, or a C program, can call. None has a `requires`: each takes every input. A row is one fact that the
-contract states. *Of* says what the fact is about: the result, or the parameter that the function writes to. *Cites* names the definitions that the fact
-uses; the last section says which file has each.
+contract states. *Of* says what the fact is about: the result, with the fields that it names, or a parameter that the function writes to; where it is about neither,
+a parameter as it was given. *Cites* names the definitions that the fact uses; the last section says which file has each.
 
 **Edits.** An edit makes the code, a contract or a definition wrong, and the prover has to refuse it. *Tried by* says who tries it: the gate (`.ci/run`, from
-`crates/NAME/must-fail/`), or `.ci/more` (from `tests/edits/NAME/`). *Refused* names the fact that can no longer be proved. `returns` is the fact that
-the result and the buffers are what the contract says; a number after it says at which return. `loop-again` is the fact that a loop keeps its
-invariant. A name that ends in `-requires` is what the called function asks of its arguments.
+`crates/NAME/must-fail/`), or `.ci/more` (from `tests/edits/NAME/`). *Error* and *Refused* are the head of the edit's file. *Refused* names the fact that
+can no longer be proved:
+
+- `returns` is the fact that the result and the buffers are what the contract says; a number after it says at which return.
+- `loop-again` is the fact that a loop keeps its invariant.
+- A name that ends in -requires is what the called function asks of its arguments.
+- `told`, in `cdi_c`, is the fact that what the function by value says of its result is what the entry says of the state in place.
+- `runs-hold`, in `cdi_model`, computes whole runs of the model on literal bytes; `table-unpadded` computes that the table names no cell too many.
 """
 
 
@@ -317,10 +329,6 @@ def table(*rows):
     """Rows of cells as a Markdown table, the first its head."""
     lines = ["| " + " | ".join(cell.replace("|", "\\|") for cell in row) + " |" for row in rows]
     return "\n".join([lines[0], "|" + len(rows[0]) * "---|", *lines[1:], ""])
-
-
-def quoted(names):
-    return ", ".join(f"`{name}`" for name in names)
 
 
 def function_rows(function):
