@@ -5,8 +5,8 @@ functions   A function that another crate can call has an `ensures` and no `requ
             a private or a `pub(crate)` function. There is no `pub use`, which would hand out functions that are not seen here.
 conjuncts   Every fact that a public contract states says something: it is an equation between what the function gives and what it was given,
             or one definition, and it cites a definition of this repository. Only the result may be equal to a parameter as it is. Together the facts
-            speak of the whole result, of all that is left in the caller's buffers, and of every parameter. A name that a
-            source brings in from a definition is in one of its contracts.
+            speak of the whole result, of all that is left in the caller's buffers, and of every parameter. A definition has its own name in a public
+            contract. Every definition that a source brings in is in one of its contracts.
 document    docs/CONTRACTS.md is the text that tests/contracts.py makes.
 edits       Every edit says the error and the fact that is refused, can be made, and is aimed at code or at a definition. For every public function
             there is an edit of its crate that is aimed at it, or at a function, a constant or a definition that it rests on.
@@ -68,7 +68,7 @@ def breaches(source):
 
 
 FUNCTIONS = """
-pub fn good(x: u8) -> u8
+pub fn good(x: u8) -> u8 // a comment {
     ensures { λ r. ⌜ r ≡ x ⌝ }
 {
     x
@@ -92,7 +92,6 @@ pub(crate) fn inner(x: u8) -> u8
 }
 
 impl Slot {
-    // pub fn commented() {}
     #[no_mangle]
     pub extern "C" fn exported(x: u8) -> u8 {
         x
@@ -212,6 +211,11 @@ def unused(source):
     return [name for name in imports(source) if name not in said]
 
 
+def renamed(source):
+    """The definitions that a source brings in under another name."""
+    return re.findall(r" as (\w+)", " ".join(re.findall(r"^ghost use Rattle·.*;", source, re.M)))
+
+
 def structs_in(source):
     """The structs with named fields of a source, each with its fields and their types."""
     found = re.findall(r"^(?:pub )?struct (\w+) \{(.*?)^\}", without_comments(source), re.M | re.S)
@@ -258,15 +262,17 @@ def sample_conjuncts():
         came = [*weaknesses(Function("sample", "", item, imports(source)), structs_in(source))]
         expect(came, [re.sub("^fact", f"the conjunct `{new}`", fault) for fault in wanted])
     expect(unused(CONJUNCTS), ["Holds", "idle"])
+    expect(renamed(CONJUNCTS), ["two"])
 
 
 def check_conjuncts():
     sample_conjuncts()
     sources = [path for crate in crates() for path in files_of(crate) if path.endswith(".rt")]
     structs = {name: fields for path in sources for name, fields in structs_in(read(path)).items()}
-    for crate in crates():
-        for function in functions_of(crate):
-            yield from (f"{function.path}:{function.item.line}: {function.item.name}: {fault}" for fault in weaknesses(function, structs))
+    for function in (function for crate in crates() for function in functions_of(crate)):
+        faults = [*weaknesses(function, structs)]
+        faults += [f"cites {name}, a definition under another name" for name in renamed(read(function.path)) if name in words_of(function.item.head)]
+        yield from (f"{function.path}:{function.item.line}: {function.item.name}: {fault}" for fault in faults)
     yield from (f"{path}: {name} is brought in, and no contract cites it" for path in sources for name in unused(read(path)))
 
 
@@ -355,6 +361,7 @@ Refused: `returns`: 9 is not 8.
 file: src/lib.rt
 old: const LIMIT: u8 = 8;
 new: const LIMIT: u8 = 9;
+A comment, which rt passes over.
 """
 
 CODE = """
