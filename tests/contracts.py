@@ -337,7 +337,8 @@ def function_rows(function):
     given = parameters(function.item.head)
     for number, fact in enumerate(facts):
         name = "" if number else f"`{function.item.name}`"
-        yield name, ", ".join(subjects(fact, result, given)), quoted(cited(fact, function.known))
+        # A fact without a definition says that the result is a parameter as it was given.
+        yield name, ", ".join(subjects(fact, result, given)), quoted(cited(fact, function.known)) or "none: it is a parameter as it was given"
 
 
 def section(crate):
