@@ -1,4 +1,6 @@
-// The analog readout and the charge in percent: document 01, "Readout and percent".
+// The analog readout and the charge in percent: document 01, "Readout and percent". `readout` is 16 times the mean of the readings,
+// rounded down once, plus the signed offset, clamped to 16 bits; it refuses with 15, then 16. `percent` rounds to the nearest, halves up,
+// and is at most 100.
 ghost use mathlib.Core.Path.{_≡_};
 ghost use Prim.Native.Nat.{_≤_};
 ghost use lib.IntN.{pos, _+ℤ_};

@@ -1,4 +1,4 @@
-// The entries behind the C ABI; include/cdi.h declares them and says what each reads and writes. The state stays where the controller
+// The entries with the C ABI; include/cdi.h declares them and says what each reads and writes. The state stays where the controller
 // has it and is updated there (document 01, "Items", the bay controller's record): an entry calls a function by value with it, and
 // stores the state of the result.
 ghost use mathlib.Core.Path.{_≡_};

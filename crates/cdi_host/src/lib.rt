@@ -1,4 +1,5 @@
-// The host's writer of command frames: document 01, "Command writer".
+// The host's writer of command frames: document 01, "Command writer". `encode_command` refuses with 13, 14, then as the module does. The
+// module reads what it writes as exactly that payload; the bytes after the frame stay.
 ghost use mathlib.Core.Path.{_≡_};
 ghost use Prim.Native.Nat.{_+_, _≤_};
 ghost use lib.ListN.{length, replicate};

@@ -1,5 +1,5 @@
 // The stored image: document 01, "Command writer and stored image". `save` writes what a module keeps without power, and `load` brings
-// it back.
+// it back: what `save` writes `load` accepts on any state, with the same stored cells. An image that is refused changes nothing.
 mod read;
 mod write;
 

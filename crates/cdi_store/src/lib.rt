@@ -1,5 +1,5 @@
-// What a command and a power-up store in a state: document 01, "Items". A command is taken as it is; whether it is accepted the module
-// decides.
+// What a command and a power-up store in a state: document 01, "Items". A command is taken as it is; the module decides whether it is
+// accepted. A code that is no setting, or an index out of range, stores nothing.
 ghost use mathlib.Core.Path.{_≡_};
 ghost use Rattle.cdi_command.specs.Command.{validatedResult};
 ghost use Rattle.cdi_store.specs.Store.{valueStored, stateFor, storesFor, stateAtPowerUp};

@@ -1,4 +1,5 @@
-// Whether a state is valid: document 01, "Items". Which values an item accepts is the item list's to say.
+// Whether a state is valid: document 01, "Items". The item list says which values are accepted. The factory state is valid, and after a
+// power-up the stored part alone decides.
 ghost use mathlib.Core.Path.{_≡_};
 ghost use mathlib.Core.List.{[], _∷_};
 ghost use Rattle.logic.specs.Lists.{hasZero};

@@ -1,4 +1,6 @@
-// The value that a command reads: document 01, "Items".
+// The value that a command reads: document 01, "Items". `read` writes it over the front of a buffer: for Read the working copy, for
+// Read NV the stored one, for any other command nothing. Nothing is written into less room than the longest value needs, and the bytes
+// after the value stay.
 ghost use mathlib.Core.Path.{_≡_};
 ghost use mathlib.Core.Bool.{cond};
 ghost use mathlib.Core.List.{[], _∷_};

@@ -1,4 +1,5 @@
-// Lines of upper-case hex pairs parted by one space, read into bytes: document 01, "Examples".
+// Lines of upper-case hex pairs parted by one space: document 01, "Examples". A line of a text is read into a block of at most 200 bytes,
+// or into nothing, and its end is found.
 ghost use mathlib.Core.Path.{_≡_};
 ghost use mathlib.Core.Bool.{true};
 ghost use Prim.Native.Nat.{_+_, _*_, _<_, _≤_};

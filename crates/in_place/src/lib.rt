@@ -1,2 +1,2 @@
-// What functions share that have a state by reference and update it where it stands: document 01, "lends it for the length of a command".
-// It has no code; the proofs of the C entries go by its laws.
+// What functions share that take a state by reference and update it in place: document 01, "lends it for the length of a command".
+// It has no code; the proofs of the C entries use its laws.

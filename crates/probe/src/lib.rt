@@ -1,5 +1,5 @@
-// Functions that no C entry shows, behind the C ABI for the tests that compare them with an independent implementation. It adds
-// nothing: each function hands its arguments on and turns an enum into numbers.
+// Functions that no C entry shows, with the C ABI, for the tests that compare them with an independent implementation. It adds nothing:
+// each function hands its arguments on and turns an enum into numbers.
 ghost use mathlib.Core.Path.{_≡_};
 ghost use lib.ListN.{length};
 ghost use Rattle.logic.specs.Written.{written, lengthIn, writtenIn};

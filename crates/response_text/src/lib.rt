@@ -1,4 +1,5 @@
-// The lines that the replay program prints, written from bytes and numbers: document 01, "Examples".
+// The lines that the replay program prints: document 01, "Examples". Each function writes one line over the front of a buffer if it
+// fits, and nothing if it does not. A block of at most 200 bytes that is written is read back.
 ghost use mathlib.Core.Path.{_≡_};
 ghost use mathlib.Core.List.{[], _∷_};
 ghost use Prim.Native.Nat.{_+_, _*_, _/_, _%_, _<_, _≤_};
