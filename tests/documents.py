@@ -7,13 +7,13 @@ What is in backticks is one of these, by the first rule that applies:
   Of its words only those with a slash that look like a path are checked, as paths.
 - An id: capital letters, a hyphen and a number. docs/DECISIONS.md has a row with it.
 - A path: it has a slash, or ends as a file does that the repository keeps (ENDINGS). It exists: relative to the root, to crates/,
-  or to the folder or the crate of what the same passage names before it. A file's name alone exists if exactly one file has it.
-  A path that begins with src/, specs/, proofs/ or must-fail/ exists if some crate has it and no crate is named before it.
-  In a path `*`, NAME, CRATE and a part of one capital letter stand for anything. What is under target/ is built, and is not
-  looked for.
-- A name: all else. It is a whole word of a source, not only of a comment or an import, or the name of a file or a folder. `a::b`
-  is in the sources of the crate a, or both parts are in one source. A name after the path of a source in the same passage is in
-  that source, and one before ` in ` or ` (` and a path or a crate is there; a crate's own name is not bound so.
+  or to the folder or the crate of what the same passage names before it. A file's name alone exists if some file has it. A path
+  that begins with src/, specs/, proofs/ or must-fail/ exists if some crate has it and no crate is named before it. In a path `*`,
+  NAME, CRATE and a part of one capital letter stand for anything. What is under target/ is built, and is not looked for.
+- A name: all else, and a file that ends as a built one does (BUILT). It is a whole word of a source, not only of a comment or an
+  import, or the name of a file or a folder. `a::b` is in the sources of the crate a, or both parts are in one source. After the
+  path of a source in the same passage a name is in that source, and before `in` or a bracket and a path or a crate it is there.
+  The names of crates and of built files are not bound so.
 
 A passage is a sentence, a heading, a row of a table, or a sentence of a list's item. Blocks of code are passed over.
 """
@@ -29,6 +29,7 @@ DECISIONS = "docs/DECISIONS.md"
 TRACE = "docs/TRACE.md"
 
 ENDINGS = (".antt", ".c", ".edit", ".h", ".log", ".md", ".py", ".rt", ".txt")
+BUILT = (".a", ".pc", ".so")
 OF_A_CRATE = ("src", "specs", "proofs", "must-fail")
 
 # Where names are looked for. The tests of the documents have names in their samples that do not exist.
@@ -208,9 +209,9 @@ def form_of(token):
         return "text"
     if ID.fullmatch(token):
         return "id"
-    if is_path(token):
+    if is_path(token) and not token.endswith(BUILT):
         return "path"
-    return "name" if NAME.fullmatch(token) else "text"
+    return "name" if NAME.fullmatch(token) or is_path(token) else "text"
 
 
 def found_at(path, bases=("", "crates")):
@@ -222,5 +223,4 @@ def found_at(path, bases=("", "crates")):
         found = glob.glob(os.path.join(ROOT, base, pattern))
         if found:
             return sorted(os.path.relpath(one, ROOT) for one in found)
-    named = [one for one in files() if os.path.basename(one) == path]
-    return named if len(named) == 1 else []
+    return [one for one in files() if os.path.basename(one) == path]

@@ -10,6 +10,7 @@ import sys
 sys.dont_write_bytecode = True  # leaves no files beside the tests
 
 from documents import (
+    BUILT,
     DECISIONS,
     ID,
     NO_SOURCES,
@@ -81,7 +82,7 @@ class Passage:
         if name in crates():
             self.name_folder(f"crates/{name}")
             return
-        homes = self.homes_of(place)
+        homes = [] if name.endswith(BUILT) else self.homes_of(place)
         if homes and not any(is_in(name, path) for path in homes):
             yield f"`{name}` is not in {homes[0] if len(homes) == 1 else 'the crate'}"
         elif not homes and not is_known(name):
@@ -185,12 +186,14 @@ SAMPLES = {
     "`logic`: `specs/Items.antt`": ["the path `specs/Items.antt` does not exist"],
     "`specs/Written.antt`": [],
     "`specs/None.antt`": ["the path `specs/None.antt` does not exist"],
-    "`reference.py`": [],
-    "`Examples.antt`": ["the path `Examples.antt` does not exist"],  # several files have this name
+    "`reference.py`, `Proof.antt`": [],
+    "`none.py`": ["the path `none.py` does not exist"],
     # names
     "`readFrame`, `WAKE_LIMIT`, `cdi_execute`, `check_wakes`, `examples-hold`, `libcdi.so`, `seventeen_wakes`": [],
     "`readFram`, `examples-hol`, `none_such`": ["`readFram` is in no source", "`examples-hol` is in no source", "`none_such` is in no source"],
     "`Document`": ["`Document` is in no source"],  # in comments alone
+    "`include/cdi.h` and `lib/libcdi.a` under `target/sdk`": [],
+    "`lib/libnone.a`": ["`lib/libnone.a` is in no source"],
     "`cdi_module::execute`, `Slot::bytes`": [],
     "`cdi_host::execute`, `Slot::readout`": ["`cdi_host::execute` is in no source", "`Slot::readout` is in no source"],
     # names of a file or a crate
