@@ -1,7 +1,8 @@
 #!/usr/bin/env python3
 """docs/TRACE.md: each row of its tables has a rule and two cells for its homes, "Says it" and "Would notice". A cell has one home
-that exists, or a reason in words. A home is a path and one name in that file, the path of an edit, or a decision's id. What would
-notice is no definition and no source. A quote of the paper has a few words. "Reading order" lists every file of definitions once."""
+that exists, or a reason in words. A home is a path and one name that this file defines, the path of an edit, or a decision's id. What
+would notice is no definition and no source. A quote of the paper has a few words. "Reading order" lists every file of definitions
+once."""
 
 import os
 import re
@@ -9,19 +10,49 @@ import sys
 
 sys.dont_write_bytecode = True  # leaves no files beside the tests
 
-from documents import ROOT, TRACE, Problem, decision_ids, expect, files, form_of, found_at, is_in, paragraphs, read, rows_of, run_test
+from documents import (
+    LETTER_OR_HYPHEN,
+    ROOT,
+    TRACE,
+    Problem,
+    decision_ids,
+    expect,
+    files,
+    form_of,
+    is_in,
+    paragraphs,
+    read,
+    rows_of,
+    run_test,
+    searched,
+)
 
 QUOTE_MAX = 5  # words
 REASON_MIN = 3  # words
 HOME = re.compile(r"`([^`]+)`(?:: `([^`]+)`)?")
 READING, TIED = "## Reading order", "### Tied to these"
-DEFINES = re.compile(r"crates/\w+/(?:specs|src)/")
+NOTICES_NOTHING = re.compile(r"crates/\w+/(?:specs|src)/")
+# How a file defines a name, by its ending: in definitions and proofs the name comes before its type.
+DEFINITION = {
+    ".antt": rf"^[^:=(]*(?<!{LETTER_OR_HYPHEN})%s(?!{LETTER_OR_HYPHEN})[^:=]*:",
+    ".h": r"\b%s(?:\(|;| =)",
+    ".py": r"^(?:def|class) %s\b|^%s =",
+    ".rt": r"\b(?:fn|struct|enum|const) %s\b",
+}
 
 
 def file_of(path):
     """The file that a path names, from the root on, or none."""
-    found = [one for one in found_at(path) if os.path.isfile(os.path.join(ROOT, one))]
-    return found[0] if len(found) == 1 and "*" not in path else None
+    found = [one for one in (path, f"crates/{path}") if os.path.isfile(os.path.join(ROOT, one))]
+    return found[0] if found else None
+
+
+def defines(path, name):
+    """Whether a file defines a name; a document does where it has the word."""
+    pattern = DEFINITION.get(os.path.splitext(path)[1])
+    if pattern is None:
+        return is_in(name, path)
+    return any(re.search(pattern.replace("%s", re.escape(name)), line) for line in searched(path).split("\n"))
 
 
 def home_faults(path, name):
@@ -33,8 +64,8 @@ def home_faults(path, name):
         yield f"there is no file {path}"
     elif name is None and not path.endswith(".edit"):
         yield f"no name after {path}"
-    elif name and not is_in(name, file_of(path)):
-        yield f"`{name}` is not in {file_of(path)}"
+    elif name and not defines(file_of(path), name):
+        yield f"`{name}` is not defined in {file_of(path)}"
 
 
 def cell_faults(cell):
@@ -59,7 +90,7 @@ def row_faults(cells):
     for cell in cells[1:]:
         yield from cell_faults(cell)
     notices = HOME.fullmatch(cells[2])
-    if notices and DEFINES.match(file_of(notices.group(1)) or ""):
+    if notices and NOTICES_NOTHING.match(file_of(notices.group(1)) or ""):
         yield f"a definition or a source notices nothing: {cells[2]}"
 
 
@@ -134,8 +165,14 @@ SAMPLES = (
     (["a", "`refusal/specs/None.antt`: `outcomeOf`", NOTICES], ["there is no file refusal/specs/None.antt"]),
     (["a", "`outcomeOf`", NOTICES], ["there is no file outcomeOf"]),
     (["a", "`refusal/specs/Refusal.antt`", NOTICES], ["no name after refusal/specs/Refusal.antt"]),
-    (["a", "`refusal/specs/Refusal.antt`: `outcomeO`", NOTICES], ["`outcomeO` is not in crates/refusal/specs/Refusal.antt"]),
-    (["a", "`refusal/specs/Refusal.antt`: `Written`", NOTICES], ["`Written` is not in crates/refusal/specs/Refusal.antt"]),
+    (["a", "`refusal/specs/Refusal.antt`: `outcomeO`", NOTICES], ["`outcomeO` is not defined in crates/refusal/specs/Refusal.antt"]),
+    (["a", "`refusal/specs/Refusal.antt`: `written`", NOTICES], ["`written` is not defined in crates/refusal/specs/Refusal.antt"]),
+    (["a", "`refusal/src/lib.rt`: `refused`", "`tests/reference.py`: `execute`"], []),
+    (["a", "`refusal/src/lib.rt`: `length`", NOTICES], ["`length` is not defined in crates/refusal/src/lib.rt"]),
+    (["a", "`include/cdi.h`: `cdi_module_state`", "`sequence/specs/Machine.antt`: `none`"], [
+        "`none` is not defined in crates/sequence/specs/Machine.antt", "a definition or a source notices nothing: `sequence/specs/Machine.antt`: `none`"
+    ]),
+    (["a", GOOD, "`tests/reference.py`: `namedtuple`"], ["`namedtuple` is not defined in tests/reference.py"]),
     (["a", "`FRAME-99`", NOTICES], ["there is no decision FRAME-99"]),
     (["a", "`FRAME-1`: `x`", NOTICES], ["a name after the decision FRAME-1"]),
     (["a", GOOD, GOOD], [f"a definition or a source notices nothing: {GOOD}"]),
