@@ -52,9 +52,10 @@ class Passage:
         self.source = None  # the last source that was named
 
     def name_folder(self, path):
-        """Paths may be relative to the folder or the crate of a path from now on."""
+        """From now on a path may be relative to the folder or the crate of this one; what was named last goes first."""
         folder = path if os.path.isdir(os.path.join(ROOT, path)) else os.path.dirname(path)
-        self.bases += [folder] + ["/".join(path.split("/")[:2])] * path.startswith("crates/")
+        crate = "/".join(path.split("/")[:2]) if path.startswith("crates/") else ""
+        self.bases = [folder, crate, *self.bases]
 
     def homes_of(self, place):
         """The sources that a name has to be in, or none if it may be in any."""
@@ -184,6 +185,7 @@ SAMPLES = {
     # relative to what was named before
     "`logic`: `specs/Written.antt`, `Signed.antt`": [],
     "`logic`: `specs/Items.antt`": ["the path `specs/Items.antt` does not exist"],
+    "`sequence/specs/Model.antt`, and of `cdi_model` `specs/Model.antt`: `decideBlock`": [],
     "`specs/Written.antt`": [],
     "`specs/None.antt`": ["the path `specs/None.antt` does not exist"],
     "`reference.py`, `Proof.antt`": [],
