@@ -1,144 +1,220 @@
 #!/usr/bin/env python3
-"""docs/TRACE.md names things that there are: in its tables every path exists, relative to crates/ or to the root, and every name behind
-a path stands in that file as a whole word; a name of a .rt or .antt file not only in a comment or an import, and one of
-docs/DECISIONS.md at the start of a row. A row has at least one path, and quotes a few words of the paper. Of the
-definitions' files each is listed once under "What a reader believes", with its count of lines."""
-import glob
+"""docs/TRACE.md: each row of its tables has a rule and two cells for its homes, "Says it" and "Would notice". A cell has one home
+that exists, or a reason in words. A home is a path and one name that this file defines, the path of an edit, or a decision's id. What
+would notice is no definition and no source. A quote of the paper has a few words. "Reading order" lists every file of definitions
+once."""
+
 import os
 import re
 import sys
 
-ROOT = os.path.dirname(os.path.dirname(os.path.abspath(__file__)))
-TRACE = "docs/TRACE.md"
-DECISIONS = "docs/DECISIONS.md"
-READER = "## What a reader believes"
-MOST_WORDS = 5  # of a piece that is quoted
+sys.dont_write_bytecode = True  # leaves no files beside the tests
 
-# What a comment and an import look like, in the files that have code.
-ASIDES = {
-    ".rt": re.compile(r"//.*|^(?:ghost )?use .*;$", re.M),
-    ".antt": re.compile(r"(?<!\S)--(?!\S).*|^(?:pub )?use .*$", re.M),
+from documents import (
+    LETTER_OR_HYPHEN,
+    ROOT,
+    TRACE,
+    Problem,
+    decision_ids,
+    expect,
+    files,
+    form_of,
+    is_in,
+    paragraphs,
+    read,
+    rows_of,
+    run_test,
+    searched,
+)
+
+QUOTE_MAX = 5  # words
+REASON_MIN = 3  # words
+HOME = re.compile(r"`([^`]+)`(?:: `([^`]+)`)?")
+READING, TIED = "## Reading order", "### Tied to these"
+NOTICES_NOTHING = re.compile(r"crates/\w+/(?:specs|src)/")
+# How a file defines a name, by its ending: in definitions and proofs the name comes before its type.
+DEFINITION = {
+    ".antt": rf"^[^:=(]*(?<!{LETTER_OR_HYPHEN})%s(?!{LETTER_OR_HYPHEN})[^:=]*:",
+    ".h": r"\b%s(?:\(|;| =)",
+    ".py": r"^(?:def|class) %s\b|^%s =",
+    ".rt": r"\b(?:fn|struct|enum|const) %s\b",
 }
-# A letter of a name, also of one with a hyphen; a name ends where none follows.
-LETTER = r"[\w\-·′']"
 
 
-def read(path):
-    with open(os.path.join(ROOT, path), encoding="utf-8") as file:
-        return file.read()
+def file_of(path):
+    """The file that a path names, from the root on, or none."""
+    found = [one for one in (path, f"crates/{path}") if os.path.isfile(os.path.join(ROOT, one))]
+    return found[0] if found else None
 
 
-def file_of(token):
-    """The file that a token in backticks names, from the root on, or None: a name has neither a slash nor an ending of a document."""
-    if "/" not in token and not token.endswith((".md", ".txt")):
-        return None
-    under_crates = os.path.join("crates", token)
-    return under_crates if os.path.isfile(os.path.join(ROOT, under_crates)) else token
+def defines(path, name):
+    """Whether a file defines a name; a document does where it has the word."""
+    pattern = DEFINITION.get(os.path.splitext(path)[1])
+    if pattern is None:
+        return is_in(name, path)
+    return any(re.search(pattern.replace("%s", re.escape(name)), line) for line in searched(path).split("\n"))
 
 
-def rows_of(text):
-    """The rows of all tables, without their heads: each with its line's number, its section and its text."""
-    section, lines, found = "", text.split("\n"), []
-    for number, line in enumerate(lines, 1):
-        if line.startswith("## "):
-            section = line
-        rule = line.startswith("|---")
-        head = number < len(lines) and lines[number].startswith("|---")
-        if line.startswith("|") and not rule and not head:
-            found.append((number, section, line))
-    return found
+def home_faults(path, name):
+    """What is wrong with a home."""
+    if form_of(path) == "id":
+        if name or path not in decision_ids():
+            yield f"there is no decision {path}" if not name else f"a name after the decision {path}"
+    elif file_of(path) is None:
+        yield f"there is no file {path}"
+    elif name is None and not path.endswith(".edit"):
+        yield f"no name after {path}"
+    elif name and not defines(file_of(path), name):
+        yield f"`{name}` is not defined in {file_of(path)}"
 
 
-def homes_of(row):
-    """The homes that a row names, as (file, name), and (file, None) for each file; a name belongs to the last file before it."""
-    homes, path = [], None
-    for token in re.findall(r"`([^`]+)`", row):
-        named = file_of(token)
-        if named:
-            path = named
-        homes.append((path, None if named else token))
-    return homes
+def cell_faults(cell):
+    """What is wrong with a cell that has a home, or a reason why there is none."""
+    home = HOME.fullmatch(cell)
+    if home:
+        yield from home_faults(*home.groups())
+    elif "`" in cell:
+        yield f"more or less than one home: {cell}"
+    elif len(cell.split()) < REASON_MIN:
+        yield f"neither a home nor a reason: {cell}"
 
 
-def searched(path):
-    """The text in which a file's names are looked for."""
-    text = read(path)
-    asides = ASIDES.get(os.path.splitext(path)[1])
-    return asides.sub("", text) if asides else re.sub(r"\s+", " ", text)
-
-
-def stands_in(name, path):
-    if path == DECISIONS:
-        starts = [line[2:].replace("`", "") for line in read(path).split("\n") if line.startswith("| ")]
-        return any(re.match(re.escape(name) + r"(?!\w)", start) for start in starts)
-    return re.search(rf"(?<!{LETTER}){re.escape(name)}(?!{LETTER})", searched(path)) is not None
-
-
-def faults_of(row):
-    """What is wrong with the homes and the quotes of a row."""
-    homes = homes_of(row)
-    if not any(path for path, _ in homes):
-        yield "no home"
-    for path, name in homes:
-        if path is None:
-            yield f"`{name}` stands behind no path"
-        elif not os.path.isfile(os.path.join(ROOT, path)):
-            yield f"there is no file {path}"
-        elif name and not stands_in(name, path):
-            yield f"`{name}` does not stand in {path}"
-    for quote in re.findall(r'"([^"]*)"', row.split("|")[1]):
-        if len(quote.split()) > MOST_WORDS:
+def row_faults(cells):
+    """What is wrong with a row."""
+    if len(cells) != 3 or not cells[0]:
+        yield "a row is a rule and two cells for its homes"
+        return
+    for quote in re.findall(r'"([^"]*)"', cells[0]):
+        if len(quote.split()) > QUOTE_MAX:
             yield f'a quote of {len(quote.split())} words: "{quote}"'
+    for cell in cells[1:]:
+        yield from cell_faults(cell)
+    notices = HOME.fullmatch(cells[2])
+    if notices and NOTICES_NOTHING.match(file_of(notices.group(1)) or ""):
+        yield f"a definition or a source notices nothing: {cells[2]}"
 
 
-def check_reader(rows):
-    """Each file of definitions is listed once, with its count of lines; how many there are."""
-    listed = []
-    for number, _, row in rows:
-        path = homes_of(row)[0][0]
-        count = row.split("|")[2].strip()
-        lines = read(path).count("\n")
-        listed.append(path)
-        if count != str(lines):
-            sys.exit(f"{TRACE}:{number}: {path} has {lines} lines, the row says {count}")
-    found = [os.path.relpath(path, ROOT) for path in glob.glob(os.path.join(ROOT, "crates", "*", "specs", "*.antt"))]
-    wanted = sorted(path for path in found if os.path.basename(path) != "Lib.antt")
-    for path in sorted({*wanted, *listed}):
-        if path not in wanted or listed.count(path) != 1:
-            sys.exit(f"{TRACE}: {READER}: {path} is listed {listed.count(path)} times, and should be {wanted.count(path)} times")
-    return len(wanted)
-
-
-def check_the_check():
-    """Faults are found where they are."""
-    wanted = {
-        '| "a" | `refusal/specs/Refusal.antt`: `outcomeOf`; `docs/DECISIONS.md`: `Item 13` |': [],
-        '| "a" | none |': ["no home"],
-        '| "a" | `outcomeOf` |': ["no home", "`outcomeOf` stands behind no path"],
-        '| "a" | `refusal/specs/None.antt` |': ["there is no file refusal/specs/None.antt"],
-        '| "a" | `refusal/specs/Refusal.antt`: `outcomeO`, `Written` |': [
-            "`outcomeO` does not stand in crates/refusal/specs/Refusal.antt",
-            "`Written` does not stand in crates/refusal/specs/Refusal.antt",
-        ],
-        '| "a" | `docs/DECISIONS.md`: `Decision` |': ["`Decision` does not stand in docs/DECISIONS.md"],
-    }
-    for row, faults in wanted.items():
-        came = list(faults_of(row))
-        if came != faults:
-            sys.exit(f"the check itself is wrong: {row}: {came}, expected {faults}")
-
-
-def main():
-    check_the_check()
-    rows = rows_of(read(TRACE))
-    faults = [f"{TRACE}:{number}: {row.split('|')[1].strip()}: {fault}" for number, _, row in rows for fault in faults_of(row)]
+def check_rows():
+    """Each row has its homes, and they exist."""
+    rows = [*rows_of(read(TRACE))]
+    faults = [f"{TRACE}:{number}: {cells[0]}: {fault}" for number, _, cells in rows for fault in row_faults(cells)]
     if faults:
-        sys.exit("\n".join(faults))
-    files = check_reader([row for row in rows if row[1] == READER])
-    homes = sum(1 for _, _, row in rows for _, name in homes_of(row) if name)
-    edits = sum(1 for _, _, row in rows for path, name in homes_of(row) if not name and path.endswith(".edit"))
-    print(f"{homes + edits} homes in {len(rows)} rows, {files} spec files")
+        raise Problem("\n".join(faults))
+    if not rows:
+        raise Problem(f"{TRACE} has no row")
+    homes = sum(1 for _, _, cells in rows for cell in cells[1:] if HOME.fullmatch(cell))
+    return f"{homes} homes of {len(rows)} rules"
+
+
+# ---- Reading order ----------------------------------------------------------------------------
+
+
+def items_of(text):
+    """The items of the lists under "Reading order", each with the number of its line, whether it is tied, and its words."""
+    section = part = ""
+    for number, paragraph in paragraphs(text):
+        if paragraph.startswith("## "):
+            section, part = paragraph, ""
+        elif paragraph.startswith("### "):
+            part = paragraph
+        elif section == READING and paragraph.startswith("- "):
+            yield number, part == TIED, paragraph[2:]
+
+
+def reading_faults(items, wanted):
+    """What is wrong with the lists: each file of definitions is an item once, with words, and a tied one with a home that ties it."""
+    listed = []
+    for number, tied, item in items:
+        path, _, phrase = item.partition(": ")
+        listed.append(file_of(path.strip("`")) or path)
+        ties = [home for home in HOME.findall(phrase) if home[1]]
+        if not phrase:
+            yield f"{TRACE}:{number}: {path} has no words"
+        if tied and not ties and not phrase.endswith("nothing rests on it"):
+            yield f"{TRACE}:{number}: {path} is tied by nothing"
+        yield from (f"{TRACE}:{number}: {fault}" for home in ties for fault in home_faults(*home))
+    for path in sorted({*wanted, *listed}):
+        if listed.count(path) != wanted.count(path):
+            yield f"{TRACE}: {READING[3:]}: {path} is listed {listed.count(path)} times, and should be {wanted.count(path)} times"
+
+
+def check_reading_order():
+    """Every file of definitions but Lib.antt is listed once."""
+    wanted = [path for path in files() if re.fullmatch(r"crates/\w+/specs/(?!Lib\.)\w+\.antt", path)]
+    faults = [*reading_faults(items_of(read(TRACE)), wanted)]
+    if faults or not wanted:
+        raise Problem("\n".join(faults) or "there is no file of definitions")
+    return f"{len(wanted)} files of definitions in reading order"
+
+
+# ---- The checks themselves --------------------------------------------------------------------
+
+GOOD = "`refusal/specs/Refusal.antt`: `outcomeOf`"
+NOTICES = "`tests/test_trace.py`: `check_rows`"
+SAMPLES = (
+    (['"a few words of it"', GOOD, NOTICES], []),
+    (["a", "`FRAME-1`", "`refusal/must-fail/refused_writes.edit`"], []),
+    (["a", "no home for a reason", "a reader of it"], []),
+    (["a", GOOD], ["a row is a rule and two cells for its homes"]),
+    (["", GOOD, NOTICES], ["a row is a rule and two cells for its homes"]),
+    (['"a quote of too many words"', GOOD, NOTICES], ['a quote of 6 words: "a quote of too many words"']),
+    (["a", "", NOTICES], ["neither a home nor a reason: "]),
+    (["a", "none", NOTICES], ["neither a home nor a reason: none"]),
+    (["a", f"{GOOD}; {NOTICES}", NOTICES], [f"more or less than one home: {GOOD}; {NOTICES}"]),
+    (["a", f"{GOOD}, `outcome`", NOTICES], [f"more or less than one home: {GOOD}, `outcome`"]),
+    (["a", "`refusal/specs/None.antt`: `outcomeOf`", NOTICES], ["there is no file refusal/specs/None.antt"]),
+    (["a", "`outcomeOf`", NOTICES], ["there is no file outcomeOf"]),
+    (["a", "`refusal/specs/Refusal.antt`", NOTICES], ["no name after refusal/specs/Refusal.antt"]),
+    (["a", "`refusal/specs/Refusal.antt`: `outcomeO`", NOTICES], ["`outcomeO` is not defined in crates/refusal/specs/Refusal.antt"]),
+    (["a", "`refusal/specs/Refusal.antt`: `written`", NOTICES], ["`written` is not defined in crates/refusal/specs/Refusal.antt"]),
+    (["a", "`refusal/src/lib.rt`: `refused`", "`tests/reference.py`: `execute`"], []),
+    (["a", "`refusal/src/lib.rt`: `length`", NOTICES], ["`length` is not defined in crates/refusal/src/lib.rt"]),
+    (["a", "`include/cdi.h`: `cdi_module_state`", "`sequence/specs/Machine.antt`: `none`"], [
+        "`none` is not defined in crates/sequence/specs/Machine.antt", "a definition or a source notices nothing: `sequence/specs/Machine.antt`: `none`"
+    ]),
+    (["a", GOOD, "`tests/reference.py`: `namedtuple`"], ["`namedtuple` is not defined in tests/reference.py"]),
+    (["a", "`FRAME-99`", NOTICES], ["there is no decision FRAME-99"]),
+    (["a", "`FRAME-1`: `x`", NOTICES], ["a name after the decision FRAME-1"]),
+    (["a", GOOD, GOOD], [f"a definition or a source notices nothing: {GOOD}"]),
+)
+ORDER = f"""x
+{READING}
+
+- `a`: not in a list
+### To believe
+- `refusal/specs/Refusal.antt`: the numbers by name
+- `refusal/specs/Refusal.antt`: the numbers by name
+- `logic/specs/Signed.antt`
+{TIED}
+- `logic/specs/Written.antt`: bytes of a buffer; `refusal/proofs/None.antt`: `none`
+- `logic/specs/Lists.antt`: parts of a list
+- `probe/specs/Probe.antt`: numbers for tests; nothing rests on it
+
+## Next
+- `b`: not in the section
+"""
+
+
+def check_samples():
+    """The faults of some rows and of a list are found, and no others."""
+    for cells, faults in SAMPLES:
+        expect(cells, faults, [*row_faults(cells)])
+    wanted = [f"crates/{path}.antt" for path in ("refusal/specs/Refusal", "logic/specs/Written", "logic/specs/Lists", "probe/specs/Probe", "analog/specs/Analog")]
+    faults = [
+        f"{TRACE}:8: `logic/specs/Signed.antt` has no words",
+        f"{TRACE}:10: there is no file refusal/proofs/None.antt",
+        f"{TRACE}:11: `logic/specs/Lists.antt` is tied by nothing",
+        f"{TRACE}: Reading order: `a` is listed 1 times, and should be 0 times",
+        f"{TRACE}: Reading order: crates/analog/specs/Analog.antt is listed 0 times, and should be 1 times",
+        f"{TRACE}: Reading order: crates/logic/specs/Signed.antt is listed 1 times, and should be 0 times",
+        f"{TRACE}: Reading order: crates/refusal/specs/Refusal.antt is listed 2 times, and should be 1 times",
+    ]
+    expect("a reading order", faults, [*reading_faults(items_of(ORDER), wanted)])
+    return f"{len(SAMPLES)} samples"
+
+
+CHECKS = (check_samples, check_rows, check_reading_order)
 
 
 if __name__ == "__main__":
-    main()
+    run_test(CHECKS)
