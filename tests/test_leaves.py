@@ -424,30 +424,30 @@ def check_long_logs(compare, rng):
 # ---- The run ---------------------------------------------------------------------------------
 
 CHECKS = (
-    ("example lines", check_example_lines),
-    ("offsets of analog inputs", check_offsets),
-    ("lines of random blocks", check_lines_of_blocks),
-    ("lines by buffer size", check_line_buffers),
-    ("long lines", check_long_lines),
-    ("changed lines", check_changed_lines),
-    ("lines of texts", check_lines_of_texts),
-    ("short texts", check_short_texts),
-    ("cut texts", check_cut_texts),
-    ("long lines of texts", check_long_lines_of_texts),
-    ("lines of logs", check_lines_of_logs),
-    ("printed blocks", check_written_blocks),
-    ("printed words", check_written_words),
-    ("logs by buffer size", check_log_rooms),
-    ("logs of any bytes", check_log_bytes),
-    ("long logs", check_long_logs),
+    check_example_lines,
+    check_offsets,
+    check_lines_of_blocks,
+    check_line_buffers,
+    check_long_lines,
+    check_changed_lines,
+    check_lines_of_texts,
+    check_short_texts,
+    check_cut_texts,
+    check_long_lines_of_texts,
+    check_lines_of_logs,
+    check_written_blocks,
+    check_written_words,
+    check_log_rooms,
+    check_log_bytes,
+    check_long_logs,
 )
 
 
-def main():
+def main(checks, whole):
     compare = Comparison(build("probe", SIGNATURES))
-    compare.run(CHECKS, SEED)
+    compare.run(checks, SEED)
     print(f"{compare.calls:,} calls agree")
 
 
 if __name__ == "__main__":
-    run_test("leaves", main)
+    run_test(CHECKS, main)
