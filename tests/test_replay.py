@@ -1,15 +1,19 @@
 #!/usr/bin/env python3
-"""Compares the replay program with reference.py, byte by byte, on generated logs.
+"""Compares the replay program with reference.py, byte by byte, on generated logs, and runs the script
+./replay around it.
 
 Each case starts the program anew, from the factory state, with the log as a file or through a pipe. The
 whole output, the exit status and standard error are compared. Standard error is empty unless a read or a
-write fails. The first difference ends the run with exit status 1.
+write fails. The program's exit status is 0; the script's is 1 where there was a message. The first
+difference ends the run with exit status 1.
 """
 
 import errno
 import itertools
 import os
 import random
+import shutil
+import signal
 import subprocess
 import sys
 import tempfile
@@ -17,7 +21,7 @@ import tempfile
 sys.dont_write_bytecode = True  # leaves no files beside the tests
 
 import reference
-from library import Problem, run_test
+from library import ROOT, Problem, run_test
 from logs import (
     BORDER,
     HOSTILE_LINES,
@@ -40,12 +44,16 @@ from payloads import frame, permitted_commands
 from reference import ERASE_ALL_ADDRESSES, PROGRAM, READ, READ_NV, SET_DEFAULT, WRITE
 from refusals import OWN
 from replays import (
+    PATIENCE,
     REPLAY,
+    WRAPPER,
     Comparison,
+    Run,
     broken_input,
     run_on_descriptors,
     run_on_file,
     runnable,
+    started,
 )
 
 SEED = 20240002
@@ -659,6 +667,222 @@ def check_failing_writes(compare, rng):
         compare.compare(f"no line, and {path} as the output", b"", b"", run)
 
 
+# ---- One line at a time ----------------------------------------------------------------------
+
+MANY = 100_050  # lines, each of which is a read and a print of its own
+
+
+def answered(process, line):
+    """Hands a running program one line, and waits for what it prints."""
+    process.stdin.write(line + b"\n")
+    printed = b""
+    while not printed.endswith(b"\n"):
+        more = process.stdout.read(4096)
+        if not more:
+            break
+        printed += more
+    return printed
+
+
+def check_many_reads(compare, rng):
+    """Lines of which each is written only once the response to the one before was read."""
+    lines = [command(WRITE, 0x11, value) for value in range(256)]
+    wanted = reference.replay(log_of(lines)).splitlines(keepends=True)
+    with started(compare.program) as process:
+        for number in range(MANY):
+            printed = answered(process, lines[number % 256])
+            if printed != wanted[number % 256]:
+                raise Problem(f"line {number + 1} of {MANY}, one at a time: {printed!r}")
+        process.stdin.close()
+        run = Run(process.stdout.read(), process.stderr.read(), process.wait())
+    compare.compare("the end of many reads", b"", b"", run)
+    compare.lines += MANY
+
+
+# ---- The script ./replay ---------------------------------------------------------------------
+
+
+def run_script(redirections, log):
+    """Runs ./replay from a shell, with the log as its input and these redirections."""
+    with tempfile.TemporaryFile() as given:
+        given.write(log)
+        given.seek(0)
+        words = ["sh", "-c", f'exec "$0" {redirections}', WRAPPER]
+        done = subprocess.run(words, stdin=given, capture_output=True, timeout=PATIENCE)
+    return Run(done.stdout, done.stderr, done.returncode)
+
+
+def check_script_status(compare, rng):
+    """0 if the log was answered; 1 if there was a message, also where nobody can read it."""
+    unread = f"replay: standard input cannot be read: {os.strerror(errno.EISDIR)}\n"
+    closed = f"replay: standard output cannot be written: {os.strerror(errno.EBADF)}\n"
+    full = f"replay: standard output cannot be written: {os.strerror(errno.ENOSPC)}\n"
+    log = log_of([random_line(rng) for _ in range(200)])
+    compare.compare("./replay", log, reference.replay(log), run_script("", log))
+    for redirections, given, message, status in (
+        ("</", log, unread, 1),
+        ("</ 2>&-", log, "", 1),
+        ("<&-", log, "replay: standard input is closed\n", 1),
+        (">&-", log, closed, 1),
+        (">&- 2>&-", log, "", 1),
+        (">/dev/full", log, full, 1),
+        (">&-", b"", "", 0),
+        ("2>&-", b"", "", 0),
+    ):
+        name = f"./replay {redirections} on {len(given)} bytes"
+        run = run_script(redirections, given)
+        compare.compare(name, b"", b"", run, message.encode("ascii"), status)
+
+
+def check_script_arguments(compare, rng):
+    """Help is printed on demand. An argument is refused, since the log is standard input."""
+    with tempfile.NamedTemporaryFile() as file:
+        for words, status in (
+            (("-h",), 0),
+            (("--help",), 0),
+            ((file.name,), 2),
+            (("-",), 2),
+            (("--version",), 2),
+            (("",), 2),
+            (("--help", "--help"), 2),
+        ):
+            done = subprocess.run([WRAPPER, *words], stdin=subprocess.DEVNULL, capture_output=True)
+            said, silent = done.stdout, done.stderr
+            if status != 0:
+                said, silent = silent, said
+            if done.returncode != status or not said.startswith(b"usage: ") or silent:
+                raise Problem(f"./replay {words}: {done}")
+
+
+def check_script_links(compare, rng):
+    """The script is found through symbolic links, and from any folder."""
+    log = log_of(fill_cells())
+    with tempfile.TemporaryDirectory() as folder:
+        os.makedirs(f"{folder}/a/b")
+        os.symlink(WRAPPER, f"{folder}/a/absolute")
+        os.symlink("../absolute", f"{folder}/a/b/relative")
+        os.symlink(f"{folder}/a/b", f"{folder}/linked")
+        os.symlink(ROOT, f"{folder}/repository")
+        for path in ("a/absolute", "a/b/relative", "linked/relative", "repository/replay"):
+            run = run_on_file(f"{folder}/{path}", log)
+            compare.compare(f"./replay as {path}", log, reference.replay(log), run)
+        words = ["sh", "-c", 'cd "$0" && PATH=.:$PATH && absolute', f"{folder}/a"]
+        done = subprocess.run(words, input=log, capture_output=True, timeout=PATIENCE)
+        run = Run(done.stdout, done.stderr, done.returncode)
+        compare.compare("./replay by the PATH", log, reference.replay(log), run)
+
+
+def check_script_terminal(compare, rng):
+    """At a terminal the script says what it waits for, which is no failure."""
+    user, terminal = os.openpty()
+    with started(WRAPPER, terminal) as process:
+        os.close(terminal)
+        said = process.stderr.read(4096)
+        os.write(user, command(READ, 0x15) + b"\n")
+        printed = process.stdout.read(4096)
+        os.write(user, b"\x04")  # Ctrl-D
+        run = Run(printed + process.stdout.read(), process.stderr.read(), process.wait())
+    os.close(user)
+    if not said.startswith(b"replay: waiting for command blocks") or said.count(b"\n") != 1:
+        raise Problem(f"at a terminal ./replay says {said!r}")
+    log = command(READ, 0x15)
+    compare.compare("./replay at a terminal", log, reference.replay(log), run)
+
+
+def check_script_signals(compare, rng):
+    """Ctrl-C, which goes to all processes, and signals to the script alone end script and program. So
+    does a reader that closes the output."""
+    for send, number in (
+        (os.killpg, signal.SIGINT),
+        (os.kill, signal.SIGINT),
+        (os.kill, signal.SIGTERM),
+        (os.kill, signal.SIGHUP),
+    ):
+        with started(WRAPPER) as process:
+            answered(process, command(READ, 0x15))
+            send(process.pid, number)
+            left = process.stdout.read()  # comes to an end once the program has ended
+            if left or process.wait() != -number:
+                raise Problem(f"./replay after signal {number}: {left!r}, {process.returncode}")
+    with started(WRAPPER) as process:
+        answered(process, command(READ, 0x15))
+        process.stdout.close()
+        process.stdin.write(command(READ, 0x15) + b"\n")
+        if process.stderr.read() or process.wait() != 128 + signal.SIGPIPE:
+            raise Problem(f"./replay after its reader has gone: {process.returncode}")
+
+
+# ---- The script around another program -------------------------------------------------------
+
+
+def write_program(path, text):
+    """A shell script that can be run."""
+    os.makedirs(os.path.dirname(path), exist_ok=True)
+    with open(path, "w", encoding="ascii") as file:
+        file.write(f"#!/bin/sh\n{text}\n")
+    os.chmod(path, 0o755)
+
+
+def stand_in(folder):
+    """A copy of the script, with one old source; the program is to be written."""
+    os.makedirs(f"{folder}/crates")
+    shutil.copy(WRAPPER, folder)
+    for path in (f"{folder}/crates.txt", f"{folder}/crates/source"):
+        with open(path, "w", encoding="ascii"):
+            pass
+        os.utime(path, (1, 1))
+    os.utime(f"{folder}/crates", (1, 1))
+    return f"{folder}/replay"
+
+
+def check_script_messages(compare, rng):
+    """A message reaches standard error while the program still runs, also one without a line feed. A
+    program that is killed is no success."""
+    with tempfile.TemporaryDirectory() as folder:
+        script, program = stand_in(folder), f"{folder}/target/bin/replay"
+        write_program(program, "echo 'replay: one' >&2\nread line\nprintf 'replay: \\\\ two' >&2")
+        with started(script) as process:
+            first = process.stderr.read(4096)
+            process.stdin.close()
+            came = first, process.stderr.read(), process.wait()
+        if came != (b"replay: one\n", b"replay: \\ two\n", 1):
+            raise Problem(f"./replay passes messages on as {came}")
+        write_program(program, "kill -KILL $$")
+        status = run_on_file(script, b"").status
+        if status != 128 + signal.SIGKILL:
+            raise Problem(f"./replay ends with {status} where its program is killed")
+
+
+def check_script_builds(compare, rng):
+    """The program is built where there is none or a source is newer; the log is named by its path."""
+    with tempfile.TemporaryDirectory() as folder:
+        script, log = stand_in(folder), f"{folder}/target/replay.log"
+        build = "mkdir -p target/bin && printf '#!/bin/sh\\ncat\\n' >target/bin/replay"
+        write_program(f"{folder}/bin/rt", f"[ \"$*\" = 'check replay' ] && {build} && chmod +x target/bin/replay")
+        building = f"replay: proving and building the program, about two minutes; the log is {log}\n"
+        failed = f"replay: the program could not be proved and built; see {log}\n"
+        missing = "replay: 'rt' is not on the PATH; building needs the Rattle toolchain\n"
+        path = {"PATH": f"{folder}/bin:{os.environ['PATH']}"}
+
+        def expect(name, text, said, status, environment=path):
+            words = [shutil.which("sh"), script]
+            done = subprocess.run(words, input=b"text", capture_output=True, env=environment, timeout=PATIENCE)
+            came = done.stdout, done.stderr.decode("ascii"), done.returncode
+            if came != (text, said, status):
+                raise Problem(f"./replay, {name}: {came}, expected {(text, said, status)}")
+
+        expect("first use", b"text", building, 0)
+        expect("second use", b"text", "", 0)
+        os.utime(f"{folder}/crates/source", (2**32, 2**32))
+        expect("a newer source", b"text", building, 0)
+        write_program(f"{folder}/bin/rt", "exit 1")
+        expect("a build that fails", b"", building + failed, 1)
+        os.remove(f"{folder}/bin/rt")
+        for tool in ("dirname", "find"):
+            os.symlink(shutil.which(tool), f"{folder}/bin/{tool}")
+        expect("no toolchain", b"", missing, 1, {"PATH": f"{folder}/bin"})
+
+
 # ---- The run ---------------------------------------------------------------------------------
 
 CHECKS = (
@@ -691,6 +915,14 @@ CHECKS = (
     check_pieces,
     check_failing_reads,
     check_failing_writes,
+    check_many_reads,
+    check_script_status,
+    check_script_arguments,
+    check_script_links,
+    check_script_terminal,
+    check_script_signals,
+    check_script_messages,
+    check_script_builds,
 )
 
 LEAST_SEEN = 100  # of each refusal
