@@ -110,7 +110,7 @@ def changed(state, changes):
 
 def with_byte(part, at, byte, layout=STATE):
     """A state, or a part of one, with one byte replaced; only the fields that hold it are made
-    anew."""
+    again."""
     if layout not in SPANS:
         raw = pack(part, layout)
         return unpacked(raw[:at] + bytes([byte]) + raw[at + 1 :], part, layout)

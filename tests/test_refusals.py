@@ -107,10 +107,14 @@ def functions_in(header):
     return {name: comment for comment, name in re.findall(r"^/\*((?:(?!\*/)[\s\S])*)\*/\n\w+ (cdi_\w+)\(", header, re.M)}
 
 
+# A refusal's name in a comment, or the words that take the rest from another function's order.
+SAID = re.compile(r"from ([A-Z_]+) on as for (cdi_\w+)|\b([A-Z][A-Z_]+)\b")
+
+
 def order_said(comments, function):
-    """The numbers that a function's comment names, in its order. `from NAME on as for FUNCTION` names those of the other one."""
+    """The numbers that a function's comment names, in its order."""
     numbers = []
-    for start, other, name in re.findall(r"from ([A-Z_]+) on as for (cdi_\w+)|\b([A-Z]{2,}[A-Z_]*)\b", comments[function].replace("\n *", "")):
+    for start, other, name in SAID.findall(comments[function].replace("\n *", "")):
         if name in NUMBERS:
             numbers.append(NUMBERS[name])
         elif other:

@@ -2,7 +2,7 @@
 """Compares the replay program with reference.py, byte by byte, on generated logs, and runs the script
 ./replay around it.
 
-Each case starts the program anew, from the factory state, with the log as a file or through a pipe. The
+Each case starts the program again, from the factory state, with the log as a file or through a pipe. The
 whole output, the exit status and standard error are compared. Standard error is empty unless a read or a
 write fails. The program's exit status is 0; the script's is 1 where there was a message. The first
 difference ends the run with exit status 1.
