@@ -8,6 +8,7 @@ write fails. The program's exit status is 0; the script's is 1 where there was a
 difference ends the run with exit status 1.
 """
 
+import contextlib
 import errno
 import itertools
 import os
@@ -674,7 +675,8 @@ MANY = 100_050  # lines, each of which is a read and a print of its own
 
 def answered(process, line):
     """Hands a running program one line, and waits for what it prints."""
-    process.stdin.write(line + b"\n")
+    with contextlib.suppress(BrokenPipeError):  # then nothing is printed
+        process.stdin.write(line + b"\n")
     printed = b""
     while not printed.endswith(b"\n"):
         more = process.stdout.read(4096)
@@ -766,6 +768,11 @@ def check_script_links(compare, rng):
         for path in ("a/absolute", "a/b/relative", "linked/relative", "repository/replay"):
             run = run_on_file(f"{folder}/{path}", log)
             compare.compare(f"./replay as {path}", log, reference.replay(log), run)
+        write_program(f"{folder}/other/target/bin/replay", "echo other")
+        stand_in(f"{folder}/other")
+        os.symlink("../../other/replay", f"{folder}/a/b/other")
+        if run_on_file(f"{folder}/linked/other", b"") != Run(b"other\n", b"", 0):
+            raise Problem("./replay is not found by a relative link in a linked folder")
         words = ["sh", "-c", 'cd "$0" && PATH=.:$PATH && absolute', f"{folder}/a"]
         done = subprocess.run(words, input=log, capture_output=True, timeout=PATIENCE)
         run = Run(done.stdout, done.stderr, done.returncode)
