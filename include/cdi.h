@@ -9,13 +9,13 @@
  *
  * For every function:
  *
- *   - It accepts every input and always returns. It refuses bad input with a number,
- *     CDI_REFUSAL_...; if several apply, it gives the first in the order of its comment. A refusal
- *     writes no byte of a buffer and changes nothing in the state.
+ *   - It returns for every input. It refuses bad input with a number, CDI_REFUSAL_...; if several
+ *     apply, it gives the first in the order of its comment. A refusal writes no byte of a buffer
+ *     and changes nothing in the state.
  *   - The caller owns all memory. The library allocates nothing and keeps nothing after the return,
  *     so calls on different states may run at the same time.
- *   - A pointer is not NULL, even if the length beside it is 0. The memory regions of one call do
- *     not overlap. Readings are aligned as uint16_t is; a state and bytes may be at any address.
+ *   - The caller passes no NULL pointer, even with a length of 0, and no two memory regions that
+ *     overlap. Readings are aligned as uint16_t is; a state and bytes may be at any address.
  *   - It writes only what its comment says.
  *
  * Numbers written 0x.. are bytes on the wire. The header needs C11 or C++11 for its assertions on

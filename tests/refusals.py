@@ -1,18 +1,22 @@
-"""The refusals of document 01, "Numbers that a refusal carries". This is the one table that sources,
-definitions, header, documents and tests are held against: a new number is a line of REFUSALS and its
-place in ORDERS, and a new entry is a line of ORDERS.
+"""The refusals of document 01, "Numbers that a refusal carries": the one table that sources, definitions,
+header, documents and tests are held against. A new number is a line of REFUSALS and a place in the orders
+of the entries that give it; a new entry is a line of ORDERS.
 """
 
 import collections
 import itertools
 
-# The number, the constant's name, and the paper's words for when it is given.
+# The number, the constant's name, and when it is given, in the words of the constant's comment.
 Refusal = collections.namedtuple("Refusal", "number name words")
 REFUSALS = (
     Refusal(1, "RESPONSE_BUFFER_SHORT", "the response buffer has fewer than 22 bytes"),
     Refusal(2, "INVALID", "the module's state, or the contents of an image, are invalid"),
     Refusal(3, "ENDS_EARLY", "the block or the payload ends early"),
-    Refusal(4, "BAD_START", "the first byte is not 80, there is a seventeenth wake byte, or what follows the wake bytes is not 55"),
+    Refusal(
+        4,
+        "BAD_START",
+        "the first byte is not 80, there is a seventeenth wake byte, or what follows the wake bytes is not 55",
+    ),
     Refusal(5, "BAD_LENGTH_BYTE", "the length byte is under 81"),
     Refusal(6, "TRAILING_BYTES", "there are bytes after the frame"),
     Refusal(7, "COMMAND_NOT_SERVED", "the command is not served"),
@@ -31,17 +35,22 @@ REFUSALS = (
 )
 NUMBERS = {refusal.name: refusal.number for refusal in REFUSALS}
 
-# Each entry's numbers in the order in which it refuses. Of `3 to 6` it gives the one whose byte is met
-# first. 8 is there twice: for a payload without an item and for a long 81 or 82, then for any other
-# wrong length. The replay program has a buffer of 22 bytes for each block, and starts from a valid state.
+# The numbers of a payload and of a block, in the order in which they are given. Of `3 to 6` it is the one
+# whose byte is met first. 8 is there twice: for a payload without an item and for a long 81 or 82, then
+# for any other wrong length.
+PAYLOAD = "7, 8, 9, 10, 8, 11, 12"
+BLOCK = f"3 to 6, {PAYLOAD}"
+
+# The numbers of each entry. The replay program has 22 bytes for each response and starts from a valid
+# state.
 ORDERS = {
-    "cdi_execute": "1, 2, 3 to 6, 7, 8, 9, 10, 8, 11, 12",
+    "cdi_execute": f"1, 2, {BLOCK}",
     "cdi_power_up": "2",
     "cdi_save": "17, 2",
     "cdi_load": "17, 18, 19, 2",
-    "cdi_encode_command": "13, 14, 3, 7, 8, 9, 10, 8, 11, 12",
+    "cdi_encode_command": f"13, 14, 3, {PAYLOAD}",
     "cdi_readout": "15, 16",
-    "replay": "3 to 6, 7, 8, 9, 10, 8, 11, 12",
+    "replay": BLOCK,
 }
 
 
