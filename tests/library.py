@@ -27,6 +27,7 @@ def run_test(checks, main=None):
     """
     program, *names = sys.argv
     by_name = {check.__name__: check for check in checks}
+    assert len(by_name) == len(checks), "two checks have the same name"
     if len(names) > 1 or not by_name.keys() >= set(names):
         known = "".join(f"  {name}\n" for name in by_name)
         sys.stderr.write(f"usage: python3 {program} [NAME]\nNAME is one of the checks:\n{known}")

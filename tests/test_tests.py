@@ -1,5 +1,5 @@
 #!/usr/bin/env python3
-"""The tests themselves: no test imports another, and each takes the name of one of its checks."""
+"""The tests themselves: no test imports another, none has a check that it never runs, and each takes the name of a check."""
 
 import ast
 import re
@@ -42,6 +42,28 @@ def check_imports():
     return f"no import of a test in {len(files)} files"
 
 
+def unused_checks(text):
+    """The functions check_... that a source defines and does not use."""
+    names = re.findall(r"^def (check_\w+)\(", text, re.M)
+    return [name for name in names if len(re.findall(rf"\b{name}\b", text)) < 2]
+
+
+def check_unused_sample():
+    sample = "def check_a():\n    pass\n\n\ndef check_b():\n    pass\n\n\nrun_test((check_b,))\n"
+    if unused_checks(sample) != ["check_a"]:
+        raise Problem(f"the check itself is wrong: {unused_checks(sample)}")
+    return "a sample"
+
+
+def check_unused():
+    """Each check that a test defines is used in it."""
+    found = {path.name: unused_checks(path.read_text(encoding="utf-8")) for path in TESTS}
+    faults = {name: unused for name, unused in found.items() if unused}
+    if faults:
+        raise Problem(f"checks that are never run: {faults}")
+    return "no check unused"
+
+
 def run(path, *names):
     words = [sys.executable, "-B", path, *names]
     return subprocess.run(words, cwd=ROOT, capture_output=True, text=True, timeout=60)
@@ -66,5 +88,14 @@ def check_known_names():
     return "one check runs alone"
 
 
+CHECKS = (
+    check_import_sample,
+    check_imports,
+    check_unused_sample,
+    check_unused,
+    check_unknown_names,
+    check_known_names,
+)
+
 if __name__ == "__main__":
-    run_test((check_import_sample, check_imports, check_unknown_names, check_known_names))
+    run_test(CHECKS)
