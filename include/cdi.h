@@ -1,25 +1,25 @@
 /*
- * cdi.h: a HumRC module behind its Command Data Interface.
+ * cdi.h: a HumRC radio module behind its Command Data Interface, as a library for the controller.
  *
- * A controller keeps one cdi_module_state for each module. cdi_execute answers a command block as
- * the module does, cdi_power_up does what power-up does, cdi_save and cdi_load keep a module over
- * the loss of power. cdi_encode_command is the host's side: it writes the blocks. cdi_readout and
- * cdi_percent turn an analog input's readings into a charge.
+ * The controller keeps one cdi_module_state for each module. cdi_execute answers a command block as
+ * the module does. cdi_power_up does what the module does when power comes on. cdi_save writes what
+ * survives a loss of power to an image, and cdi_load brings it back. cdi_encode_command is for the
+ * host: it writes command blocks. cdi_readout and cdi_percent turn an analog input's readings into
+ * a charge.
  *
- * What holds for every function here:
+ * For every function:
  *
- *   - It takes every input, ends, and refuses bad input with a number (CDI_REFUSAL_...). If several
- *     apply, it is the first in the order that the function's comment gives. A refusal changes no
- *     byte of a buffer and nothing in the state.
- *   - The caller owns all memory. Nothing is allocated, kept after the return, or shared between
- *     calls: calls on different states may run at the same time.
- *   - A pointer is not NULL, also where the length beside it is 0, and the regions that a call is
- *     handed do not overlap. Readings are aligned as uint16_t is; a state and bytes may lie
- *     anywhere.
- *   - The function's comment says what it reads and what it writes; all else stays as it was.
+ *   - It returns for every input. It refuses bad input with a number, CDI_REFUSAL_...; if several
+ *     apply, it gives the first in the order of its comment. A refusal writes no byte of a buffer
+ *     and changes nothing in the state.
+ *   - The caller owns all memory. The library allocates nothing and keeps nothing after the return,
+ *     so calls on different states may run at the same time.
+ *   - The caller passes no NULL pointer, even with a length of 0, and no two memory regions that
+ *     overlap. Readings are aligned as uint16_t is; a state and bytes may be at any address.
+ *   - It writes only what its comment says.
  *
- * Numbers in the form 0x.. are bytes on the wire. The header needs C11 or C++11, for its assertions
- * on the layout; the library needs memcpy and memset.
+ * Numbers written 0x.. are bytes on the wire. The header needs C11 or C++11 for its assertions on
+ * the layout. The library needs memcpy and memset.
  */
 #ifndef CDI_H
 #define CDI_H
@@ -34,12 +34,12 @@ extern "C" {
 /* ---- Sizes and limits -------------------------------------------------------------------------- */
 
 enum {
-    CDI_RESPONSE_BUFFER_MIN = 22,  /* bytes that a response buffer has at least: the longest response */
-    CDI_FRAME_BUFFER_MIN = 27,     /* bytes that a command's buffer has at least: the longest command */
-    CDI_IMAGE_SIZE = 249,          /* bytes of an image of version 1, no more and no fewer */
+    CDI_RESPONSE_BUFFER_MIN = 22,  /* the smallest response buffer: the longest response */
+    CDI_FRAME_BUFFER_MIN = 27,     /* the smallest buffer for a command: the longest command */
+    CDI_IMAGE_SIZE = 249,          /* the exact size of an image of version 1 */
     CDI_WAKE_LIMIT = 16,           /* the most wake bytes in a frame */
     CDI_NAME_LENGTH = 17,          /* bytes of a stored name */
-    CDI_INPUT_COUNT = 2,           /* analog inputs: on the wire 1 and 2, in analog_inputs[] 0 and 1 */
+    CDI_INPUT_COUNT = 2,           /* analog inputs: 1 and 2 on the wire, 0 and 1 in analog_inputs[] */
     CDI_SLOT_COUNT = 40,           /* paired modules: 0 to 39 on the wire and in slots[] */
     CDI_READINGS_MAX = 16,         /* the most readings in one readout */
     CDI_READING_MAX = 4095         /* the largest reading of the 12-bit converter */
@@ -51,20 +51,20 @@ enum {
     CDI_REFUSAL_NONE = 0,                   /* accepted */
     CDI_REFUSAL_RESPONSE_BUFFER_SHORT = 1,  /* the response buffer has fewer than CDI_RESPONSE_BUFFER_MIN bytes */
     CDI_REFUSAL_INVALID = 2,                /* the state, or what an image holds, is not valid: see "The state" */
-    CDI_REFUSAL_ENDS_EARLY = 3,             /* the block or the payload ends where more bytes were to come */
-    CDI_REFUSAL_BAD_START = 4,              /* no 0x80 first, a 17th wake byte, or no 0x55 after the wake bytes */
+    CDI_REFUSAL_ENDS_EARLY = 3,             /* the block or the payload ends where more bytes must follow */
+    CDI_REFUSAL_BAD_START = 4,              /* not 0x80 first, a 17th wake byte, or not 0x55 after the wake bytes */
     CDI_REFUSAL_BAD_LENGTH_BYTE = 5,        /* the length byte is under 0x81 */
     CDI_REFUSAL_TRAILING_BYTES = 6,         /* bytes follow the frame */
     CDI_REFUSAL_COMMAND_NOT_SERVED = 7,     /* the command is not served */
     CDI_REFUSAL_WRONG_LENGTH = 8,           /* the payload is too short or too long for its command and item */
     CDI_REFUSAL_ITEM_NOT_SERVED = 9,        /* the item is not served */
     CDI_REFUSAL_NOT_PERMITTED = 10,         /* the item does not permit the command */
-    CDI_REFUSAL_WRONG_INDEX = 11,           /* there is no such slot or input */
+    CDI_REFUSAL_WRONG_INDEX = 11,           /* the slot or the input does not exist */
     CDI_REFUSAL_VALUE_NOT_ACCEPTED = 12,    /* the item does not accept the value */
     CDI_REFUSAL_FRAME_BUFFER_SHORT = 13,    /* the buffer for a command has fewer than CDI_FRAME_BUFFER_MIN bytes */
-    CDI_REFUSAL_WAKE_COUNT_OVER = 14,       /* more than CDI_WAKE_LIMIT wake bytes are asked for */
-    CDI_REFUSAL_READING_COUNT = 15,         /* no reading, or more than CDI_READINGS_MAX */
-    CDI_REFUSAL_READING_OVER = 16,          /* a reading over CDI_READING_MAX */
+    CDI_REFUSAL_WAKE_COUNT_OVER = 14,       /* the wake count is over CDI_WAKE_LIMIT */
+    CDI_REFUSAL_READING_COUNT = 15,         /* there is no reading, or more than CDI_READINGS_MAX */
+    CDI_REFUSAL_READING_OVER = 16,          /* a reading is over CDI_READING_MAX */
     CDI_REFUSAL_IMAGE_LENGTH = 17,          /* the image does not have CDI_IMAGE_SIZE bytes */
     CDI_REFUSAL_IMAGE_MARK = 18,            /* the image does not begin with the mark SWB */
     CDI_REFUSAL_IMAGE_VERSION = 19          /* the image's version is not 1 */
@@ -72,29 +72,29 @@ enum {
 
 /* ---- Commands and items ------------------------------------------------------------------------
  *
- * A payload is a command's code, the item's code, for items 0x16 and 0x18 an index, and for Write
- * and Program the value. Set Default and Erase All Addresses are the code alone.
+ * A payload is the command's code, the item's code, an index (items 0x16 and 0x18 only) and the
+ * value (Write and Program only). Set Default and Erase All Addresses are the code alone.
  */
 
 enum {
-    CDI_COMMAND_READ = 0x01,         /* the working value, or the stored one where an item has no other */
+    CDI_COMMAND_READ = 0x01,         /* reads the working value; the stored one if the item has no other */
     CDI_COMMAND_WRITE = 0x02,        /* sets the working value, until the next power-up */
-    CDI_COMMAND_READ_NV = 0x03,      /* the stored value */
+    CDI_COMMAND_READ_NV = 0x03,      /* reads the stored value */
     CDI_COMMAND_PROGRAM = 0x04,      /* sets the working and the stored value */
     CDI_COMMAND_SET_DEFAULT = 0x81,  /* sets items 0x11 to 0x16 and 0x25, working and stored, to defaults */
     CDI_COMMAND_ERASE_ALL = 0x82     /* empties all slots */
 };
 
 /*
- * The defaults are 0x00, but 0x06 for the control source and 0xFF 0x01 0x00 0x00 0x00 for each
- * analog input.
+ * Every default byte is 0x00, except 0x06 for the control source and 0xFF 0x01 0x00 0x00 0x00 for
+ * each analog input.
  */
 
 /* The first byte of a response's payload. */
 enum {
-    CDI_RESPONSE_ACK = 0xC0,      /* to all but reads: 0x00 and the command's payload follow */
-    CDI_RESPONSE_READ = 0xC1,     /* to Read: the item, the index if it has one, and the value follow */
-    CDI_RESPONSE_READ_NV = 0xC2   /* to Read NV: the same */
+    CDI_RESPONSE_ACK = 0xC0,      /* to every command but a read; 0x00 and the command's payload follow */
+    CDI_RESPONSE_READ = 0xC1,     /* to Read; the item, its index if it has one, and the value follow */
+    CDI_RESPONSE_READ_NV = 0xC2   /* to Read NV; the same follows */
 };
 
 /* The commands that an item permits (R Read, N Read NV, W Write, P Program), and its value. */
@@ -119,30 +119,31 @@ enum {
 };
 
 /*
- * The status: first the flags, with bit 7 set where an event is in the working interrupt mask;
- * then the power, the line mask and the latch mask in force.
+ * The status has four bytes: the flags, with bit 7 set if the events and the working interrupt mask
+ * share a set bit; then the power, the line mask and the latch mask in force.
  */
 
 /* ---- The state ---------------------------------------------------------------------------------
  *
- * Everything that a module holds, in three parts: `stored` survives a loss of power, `working` has
- * the settings in force, and `live` has the values that the controller sets. All of it is plain
- * bytes without padding: memcpy copies a state, memcmp compares two.
+ * Everything that a module holds, in three parts. `stored` survives a loss of power, `working` has
+ * the settings in force, and `live` has the values that the controller sets. A state is plain bytes
+ * without padding: memcpy copies it, memcmp compares two.
  *
  * A state is valid if
  *
- *   - the name has a 0x00;
- *   - all slots, and in both copies of the settings tx_power, control_source, message_select and
- *     both analog inputs, hold values that their items accept;
+ *   - the name contains a 0x00;
+ *   - every slot holds a value that item 0x18 accepts;
+ *   - in both copies of the settings, tx_power, control_source, message_select and both analog
+ *     inputs hold values that their items accept;
  *   - the live flags have a mode of at most 4 in bits 0 to 2, and zeros in bits 3, 6 and 7.
  *
- * cdi_factory's state is valid, and every function here leaves a valid state valid. On an invalid
- * state a command, a power-up and a save are refused; a load makes it valid again.
+ * cdi_factory returns a valid state, and every function leaves a valid state valid. On an invalid
+ * state a command, a power-up and a save are refused. A load makes it valid again.
  */
 
 /*
- * A paired module (item 0x18). All bytes zero is an empty slot; an address of zeros goes with the
- * mask 0 alone.
+ * A paired module (item 0x18). A slot of zeros is empty. An address of zeros is accepted only with
+ * the mask 0x00.
  */
 typedef struct {
     uint8_t address[4];
@@ -152,9 +153,9 @@ typedef struct {
 /* An analog input (item 0x16). */
 typedef struct {
     uint8_t channel;    /* 0x04 to 0x07, 0xFE or 0xFF */
-    uint8_t readings;   /* how many are averaged, 1 to 16 */
+    uint8_t readings;   /* how many readings are averaged, 1 to 16 */
     uint8_t reference;  /* 0 or 1 */
-    uint8_t offset[2];  /* signed, two's complement, the high byte first */
+    uint8_t offset[2];  /* signed, two's complement, high byte first */
 } cdi_analog_input;
 
 /* The settings, items 0x11 to 0x16 and 0x25. A state has two copies, one stored and one working. */
@@ -169,9 +170,8 @@ typedef struct {
 } cdi_settings;
 
 /*
- * What the hardware's pins select. Bits 0, 3 and 4 of the working control source decide where the
- * power, the line mask and the latch mask in force come from: 1 takes the working setting, 0 the
- * value here.
+ * What the hardware's pins select. Bits 0, 3 and 4 of the working control source choose the power,
+ * the line mask and the latch mask in force: 1 is the working setting, 0 is the value here.
  */
 typedef struct {
     uint8_t power;
@@ -180,7 +180,7 @@ typedef struct {
 } cdi_hardware_selection;
 
 /*
- * What a module keeps without power: what an image holds. Program, Set Default, Erase All and a
+ * What a module keeps without power, and what an image holds. Program, Set Default, Erase All and a
  * load change it.
  */
 typedef struct {
@@ -193,7 +193,7 @@ typedef struct {
 } cdi_stored;
 
 /*
- * What a power-up makes from the stored part: the settings in force. Write changes only these;
+ * The settings in force. A power-up copies them from the stored part. Write changes only these;
  * Program and Set Default change the stored ones too.
  */
 typedef struct {
@@ -201,8 +201,8 @@ typedef struct {
 } cdi_working;
 
 /*
- * What the module senses; items 0x20 to 0x23 and 0x26 show it. The controller sets these values
- * between calls. No command changes them; a power-up and a load reset rssi, events and flags.
+ * What the module senses, shown by items 0x20 to 0x23 and 0x26. The controller sets these values
+ * between calls. No command changes them. A power-up and a load reset rssi, events and flags.
  */
 typedef struct {
     uint8_t lines[2];
@@ -221,13 +221,13 @@ typedef struct {
 
 /* ---- Results ----------------------------------------------------------------------------------- */
 
-/* Of a call that writes a buffer: the refusal or 0, and how many bytes it wrote, 0 on a refusal. */
+/* Of a call that writes a buffer: the refusal or 0, and the number of bytes written, 0 on a refusal. */
 typedef struct {
     uint8_t refusal;
     size_t length;
 } cdi_outcome;
 
-/* The refusal or 0, and the readout, 0 on a refusal. */
+/* Of cdi_readout: the refusal or 0, and the readout, 0 on a refusal. */
 typedef struct {
     uint8_t refusal;
     uint16_t readout;
@@ -236,67 +236,56 @@ typedef struct {
 /* ---- The module -------------------------------------------------------------------------------- */
 
 /*
- * The state as a module leaves the factory: settings as Set Default leaves them, RSSI 0x80 0x80,
- * and every other byte 0x00. Returns it by value, reads nothing, refuses nothing.
+ * Returns the state of a module as it leaves the factory: settings as after Set Default, RSSI
+ * 0x80 0x80, and 0x00 in every other byte. It reads and writes no memory, and refuses nothing.
  */
 cdi_module_state cdi_factory(void);
 
 /*
- * Executes one command block on the state. Reads the state and the block; a block is exactly one
- * frame: 0x80, up to 16 wake bytes 0xFF, 0x55, a byte 0x80 + n, and n payload bytes. Writes the
- * response, a frame without wake bytes, over the first bytes of `response`, and leaves the bytes
- * after it. Write, Program, Set Default and Erase All change the state in place; a read changes
- * nothing in it. The caller owns state, block and response; no two of them overlap.
- *
- * Refusals, the first that applies: RESPONSE_BUFFER_SHORT; INVALID for the state; ENDS_EARLY,
- * BAD_START, BAD_LENGTH_BYTE or TRAILING_BYTES as the block's bytes are met from the left;
- * COMMAND_NOT_SERVED; WRONG_LENGTH for a payload without an item, or a Set Default or Erase All
- * that goes on; ITEM_NOT_SERVED; NOT_PERMITTED; WRONG_LENGTH otherwise; WRONG_INDEX;
+ * Executes one command block on the state. It reads the state and the block, which is exactly one
+ * frame: 0x80, up to 16 wake bytes 0xFF, 0x55, a byte 0x80 + n, and n payload bytes. It writes the
+ * response, a frame without wake bytes, to the first bytes of `response` and leaves the rest. Write,
+ * Program, Set Default and Erase All change the state in place; a read leaves it as it was.
+ * Refusals, in this order: RESPONSE_BUFFER_SHORT; INVALID for the state; ENDS_EARLY, BAD_START,
+ * BAD_LENGTH_BYTE or TRAILING_BYTES, whichever is met first from the left; COMMAND_NOT_SERVED;
+ * WRONG_LENGTH for a payload without an item, or for bytes after a Set Default or Erase All code;
+ * ITEM_NOT_SERVED; NOT_PERMITTED; WRONG_LENGTH for any other length; WRONG_INDEX;
  * VALUE_NOT_ACCEPTED.
  */
 cdi_outcome cdi_execute(cdi_module_state *state, const uint8_t *block, size_t block_len,
                         uint8_t *response, size_t response_len);
 
 /*
- * What power-up does: the working settings become a copy of the stored ones, the live rssi becomes
- * 0x80 0x80, and the live events and flags become 0x00. Reads and writes the state, which the
- * caller owns; all else in it stays.
- *
- * Returns 0, or the refusal: INVALID for the state.
+ * Powers the module up. It reads and writes the state: the working settings become a copy of the
+ * stored ones, the live rssi becomes 0x80 0x80, the live events and flags become 0x00, and the rest
+ * stays. It returns 0 or the refusal: INVALID for the state.
  */
 uint8_t cdi_power_up(cdi_module_state *state);
 
 /* ---- The stored image -------------------------------------------------------------------------- */
 
 /*
- * Writes the image of the state, all CDI_IMAGE_SIZE bytes of `image`: the mark SWB, the version
- * 0x00 0x01, then the stored part in item order: name, firmware, serial, address, items 0x11 to
- * 0x15, both analog inputs, the 40 slots and item 0x25. Working settings and live values are not
- * saved. Reads the state and leaves it. The caller owns state and image; they do not overlap.
- *
- * Refusals, the first that applies: IMAGE_LENGTH; INVALID for the state.
+ * Saves the stored part of the state to an image. It reads the state and writes all CDI_IMAGE_SIZE
+ * bytes of `image`: the mark SWB, the version 0x00 0x01, then name, firmware, serial, address, items
+ * 0x11 to 0x15, both analog inputs, the 40 slots and item 0x25. Working settings and live values are
+ * not saved. Refusals, in this order: IMAGE_LENGTH; INVALID for the state.
  */
 cdi_outcome cdi_save(const cdi_module_state *state, uint8_t *image, size_t image_len);
 
 /*
- * Brings an image back: what it holds replaces the stored part, and then the module powers up.
- * Reads the image; writes the state, of which the live lines, ladj and hardware stay. The state
- * before need not be valid. The state afterwards is, and saving it gives the same image. The caller
- * owns state and image; they do not overlap.
- *
- * Returns 0, or the first refusal that applies: IMAGE_LENGTH; IMAGE_MARK; IMAGE_VERSION; INVALID
- * for an image that holds what no valid state does.
+ * Loads an image. It reads the image, writes its contents to the stored part of the state, and then
+ * powers the module up; the live lines, ladj and hardware stay. The state before need not be valid;
+ * the state after is, and saving it gives the same image. It returns 0 or a refusal, in this order:
+ * IMAGE_LENGTH; IMAGE_MARK; IMAGE_VERSION; INVALID for the image's contents.
  */
 uint8_t cdi_load(cdi_module_state *state, const uint8_t *image, size_t image_len);
 
 /* ---- The host's side --------------------------------------------------------------------------- */
 
 /*
- * Writes a command's payload as a block with `wake` wake bytes, over the first bytes of `frame`,
- * and leaves the bytes after it. Reads the payload. cdi_execute reads the block as exactly that
- * payload. The caller owns payload and frame; they do not overlap.
- *
- * Refusals, the first that applies: FRAME_BUFFER_SHORT; WAKE_COUNT_OVER; ENDS_EARLY for an empty
+ * Writes the block of a command. It reads the payload and writes the frame, with `wake` wake bytes,
+ * to the first bytes of `frame`, and leaves the rest. cdi_execute reads the block as exactly that
+ * payload. Refusals, in this order: FRAME_BUFFER_SHORT; WAKE_COUNT_OVER; ENDS_EARLY for an empty
  * payload; then from COMMAND_NOT_SERVED on as for cdi_execute.
  */
 cdi_outcome cdi_encode_command(const uint8_t *payload, size_t payload_len, size_t wake,
@@ -305,18 +294,17 @@ cdi_outcome cdi_encode_command(const uint8_t *payload, size_t payload_len, size_
 /* ---- Analog inputs ----------------------------------------------------------------------------- */
 
 /*
- * The 16-bit readout of `count` readings: their mean times 16, rounded down once, with the offset
- * added; at least 0 and at most 65,535. Reads the readings, which the caller owns, and writes
- * nothing. The offset is a signed number; of a cdi_analog_input it is
- * (int16_t)((offset[0] << 8) | offset[1]).
- *
- * Refusals, the first that applies: READING_COUNT; READING_OVER.
+ * Computes the 16-bit readout of `count` readings: 16 times their mean, rounded down once, plus the
+ * offset, and at least 0 and at most 65,535. It reads the readings and writes no memory. The offset
+ * of a cdi_analog_input is (int16_t)((offset[0] << 8) | offset[1]). Refusals, in this order:
+ * READING_COUNT; READING_OVER.
  */
 cdi_readout_result cdi_readout(const uint16_t *readings, size_t count, int16_t offset);
 
 /*
- * A readout as whole percent of the reference, to the nearest, halves up: 0 to 100. Readings 3,563
- * and 3,564 with no offset have the readout 57,016, which is 87 percent. It refuses nothing.
+ * Returns a readout as percent of full scale, to the nearest whole number, halves up: 0 to 100.
+ * Readings 3,563 and 3,564 without an offset have the readout 57,016, which is 87 percent. It reads
+ * and writes no memory, and refuses nothing.
  */
 uint8_t cdi_percent(uint16_t readout);
 

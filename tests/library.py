@@ -1,5 +1,5 @@
-"""What the tests share that call the project's functions through a shared library: building it,
-memory between guard bytes, and the comparison that ends with the first difference.
+"""What the tests share: running a test's checks, building a shared library, memory between guard bytes,
+and the comparison that ends with the first difference.
 """
 
 import contextlib
@@ -19,12 +19,36 @@ class Problem(Exception):
     """What is tested can't be built or run, or it differs from the reference."""
 
 
-def run_test(name, main):
-    """Runs a test; a Problem ends it with exit status 1 and what it says."""
+def run_test(checks, main=None):
+    """Runs a test: all its checks, or the one that the command line names; another name lists them.
+
+    `main` gets the checks to run, and whether these are all. Without it each check takes nothing and
+    returns in words what it has seen. A Problem ends the test with exit status 1.
+    """
+    program, *names = sys.argv
+    by_name = {check.__name__: check for check in checks}
+    assert len(by_name) == len(checks), "two checks have the same name"
+    if len(names) > 1 or not by_name.keys() >= set(names):
+        known = "".join(f"  {name}\n" for name in by_name)
+        sys.stderr.write(f"usage: python3 {program} [NAME]\nNAME is one of the checks:\n{known}")
+        sys.exit(2)
     try:
-        main()
+        (main or say_what_was_seen)([by_name[name] for name in names or by_name], not names)
     except Problem as problem:
-        sys.exit(f"{name}: {problem}")
+        sys.exit(f"{pathlib.Path(program).stem}: {problem}")
+
+
+def say_what_was_seen(checks, whole):
+    print("; ".join([check() for check in checks]))
+
+
+def same_sets(what, wanted, source, came, other):
+    """Raises a Problem if two sets differ."""
+    if wanted != came:
+        lines = [f"{what} differ"]
+        lines.append(f"  only in {source}: {sorted(wanted - came)}")
+        lines.append(f"  only in {other}: {sorted(came - wanted)}")
+        raise Problem("\n".join(lines))
 
 
 # ---- Building --------------------------------------------------------------------------------
@@ -163,8 +187,8 @@ class Calls:
         return came
 
     def run(self, checks, seed):
-        """Runs checks, each with the same random numbers, and tells the calls that agreed."""
-        for name, check in checks:
+        """Runs checks, each with the same random numbers, and prints how many calls agreed."""
+        for check in checks:
             before = self.calls
             check(self, random.Random(seed))
-            print(f"{name}: {self.calls - before} calls")
+            print(f"{check.__name__}: {self.calls - before} calls")

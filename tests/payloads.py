@@ -138,3 +138,17 @@ def likely_payload(rng):
     if item == 0x18:
         payload += bytes([rng.choice((rng.randrange(40), 0, 1, 38, 39, 40))])
     return payload + (random_value(rng, item) if code in (WRITE, PROGRAM) else b"")
+
+
+def random_block(rng):
+    """A block: mostly a whole frame, often of a command that is accepted, else a damaged one."""
+    payload = likely_payload(rng) if rng.random() < 0.7 else random_payload(rng)
+    block = frame(rng.choice((0, 0, 0, 1, 2, 16, 17)), payload)
+    kind = rng.random()
+    if kind < 0.8:
+        return block
+    if kind < 0.95:
+        at = rng.randrange(len(block))
+        change = rng.choice((b"", b"\xff", b"\x00", rng.randbytes(1), rng.randbytes(2)))
+        return block[:at] + change + block[at + rng.randrange(2) :]
+    return rng.choice((b"", rng.randbytes(rng.randrange(30)), block + bytes(rng.choice(WRAPS))))

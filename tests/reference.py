@@ -1,7 +1,7 @@
 """An independent implementation of document 01, to hold the project's code against.
 
 It is written from the paper alone and laid out by the paper's sections. Every function is pure,
-over bytes, whole numbers and tuples of them. A refusal is given as its number; 0 stands for
+over bytes, whole numbers and tuples of them. A refusal is given as its number; 0 is
 accepted.
 """
 
@@ -14,22 +14,22 @@ ACCEPTED = 0
 RESPONSE_BUFFER_SHORT = 1
 INVALID = 2
 ENDS_EARLY = 3
-START_WRONG = 4
-LENGTH_BYTE_LOW = 5
-BYTES_AFTER_FRAME = 6
+BAD_START = 4
+BAD_LENGTH_BYTE = 5
+TRAILING_BYTES = 6
 COMMAND_NOT_SERVED = 7
-PAYLOAD_LENGTH_WRONG = 8
+WRONG_LENGTH = 8
 ITEM_NOT_SERVED = 9
-COMMAND_NOT_PERMITTED = 10
-INDEX_WRONG = 11
+NOT_PERMITTED = 10
+WRONG_INDEX = 11
 VALUE_NOT_ACCEPTED = 12
-COMMAND_BUFFER_SHORT = 13
-WAKE_COUNT_HIGH = 14
-READING_COUNT_WRONG = 15
-READING_HIGH = 16
-IMAGE_LENGTH_WRONG = 17
-MARK_WRONG = 18
-VERSION_WRONG = 19
+FRAME_BUFFER_SHORT = 13
+WAKE_COUNT_OVER = 14
+READING_COUNT = 15
+READING_OVER = 16
+IMAGE_LENGTH = 17
+IMAGE_MARK = 18
+IMAGE_VERSION = 19
 
 # ---- 01, "Frame" -----------------------------------------------------------------------------
 
@@ -56,29 +56,29 @@ def read_frame(block):
     if at == len(block):
         return ENDS_EARLY, 0, 0
     if block[at] != FRAME_START:
-        return START_WRONG, 0, 0
+        return BAD_START, 0, 0
     at += 1
     wakes = 0
     while at < len(block) and block[at] == WAKE:
         wakes += 1
         if wakes > MOST_WAKES:
-            return START_WRONG, 0, 0
+            return BAD_START, 0, 0
         at += 1
     if at == len(block):
         return ENDS_EARLY, 0, 0
     if block[at] != WAKES_END:
-        return START_WRONG, 0, 0
+        return BAD_START, 0, 0
     at += 1
     if at == len(block):
         return ENDS_EARLY, 0, 0
     if block[at] < LENGTH_BASE + 1:
-        return LENGTH_BYTE_LOW, 0, 0
+        return BAD_LENGTH_BYTE, 0, 0
     length = block[at] - LENGTH_BASE
     at += 1
     if len(block) < at + length:
         return ENDS_EARLY, 0, 0
     if len(block) > at + length:
-        return BYTES_AFTER_FRAME, 0, 0
+        return TRAILING_BYTES, 0, 0
     return ACCEPTED, at, length
 
 
@@ -405,22 +405,22 @@ def validate_payload(payload):
         return ENDS_EARLY
     command = payload[0]
     if command in (SET_DEFAULT, ERASE_ALL_ADDRESSES):
-        return ACCEPTED if len(payload) == 1 else PAYLOAD_LENGTH_WRONG
+        return ACCEPTED if len(payload) == 1 else WRONG_LENGTH
     if command not in LETTERS:
         return COMMAND_NOT_SERVED
     if len(payload) == 1:
-        return PAYLOAD_LENGTH_WRONG
+        return WRONG_LENGTH
     if payload[1] not in ITEMS:
         return ITEM_NOT_SERVED
     item = ITEMS[payload[1]]
     if LETTERS[command] not in item.commands:
-        return COMMAND_NOT_PERMITTED
+        return NOT_PERMITTED
     sets_value = command in (WRITE, PROGRAM)
     value_start = 3 if item.indexed else 2
     if len(payload) != value_start + (item.value_bytes if sets_value else 0):
-        return PAYLOAD_LENGTH_WRONG
+        return WRONG_LENGTH
     if item.indexed and not is_index(item.code, payload[2]):
-        return INDEX_WRONG
+        return WRONG_INDEX
     if sets_value and not accepts(item.code, payload[value_start:]):
         return VALUE_NOT_ACCEPTED
     return ACCEPTED
@@ -479,9 +479,9 @@ def execute(state, block, response):
 def readout(readings, offset):
     """Refusal and readout of 1 to 16 readings of 0 to 4,095 and a signed 16-bit offset."""
     if len(readings) < 1 or len(readings) > 16:
-        return READING_COUNT_WRONG, 0
+        return READING_COUNT, 0
     if any(reading > 4095 for reading in readings):
-        return READING_HIGH, 0
+        return READING_OVER, 0
     # one division, whose rest is dropped, and then the offset
     total = 16 * sum(readings) // len(readings) + offset
     # the ends of a 16-bit number
@@ -511,9 +511,9 @@ def encode_command(payload, wake, frame):
     changes none.
     """
     if len(frame) < COMMAND_BUFFER:
-        return COMMAND_BUFFER_SHORT, 0, frame
+        return FRAME_BUFFER_SHORT, 0, frame
     if wake > MOST_WAKES:
-        return WAKE_COUNT_HIGH, 0, frame
+        return WAKE_COUNT_OVER, 0, frame
     refusal = validate_payload(payload)
     if refusal != ACCEPTED:
         return refusal, 0, frame
@@ -524,10 +524,10 @@ def encode_command(payload, wake, frame):
 
 # ---- 01, "Command writer and stored image" (the image) ---------------------------------------
 
-IMAGE_LENGTH = 249
-IMAGE_MARK = b"SWB"
-IMAGE_VERSION = b"\x00\x01"  # 0001, high byte first
-IMAGE_HEAD = len(IMAGE_MARK) + len(IMAGE_VERSION)
+IMAGE_SIZE = 249
+MARK = b"SWB"
+VERSION = b"\x00\x01"  # 0001, high byte first
+IMAGE_HEAD = len(MARK) + len(VERSION)
 
 
 def image_of(state):
@@ -543,11 +543,11 @@ def image_of(state):
         b"".join(stored.slots),
         bytes([nv.interrupt_mask]),
     )
-    return IMAGE_MARK + IMAGE_VERSION + b"".join(cells)
+    return MARK + VERSION + b"".join(cells)
 
 
 def cut(content, sizes):
-    """The parts, one behind the other, of the given sizes."""
+    """The parts, one after the other, of the given sizes."""
     parts = []
     for size in sizes:
         parts.append(content[:size])
@@ -572,11 +572,11 @@ def stored_of(image):
 
 def save(state, image):
     """Refusal, length of the image and the whole buffer afterwards: 17, 2."""
-    if len(image) != IMAGE_LENGTH:
-        return IMAGE_LENGTH_WRONG, 0, image
+    if len(image) != IMAGE_SIZE:
+        return IMAGE_LENGTH, 0, image
     if not is_valid(state):
         return INVALID, 0, image
-    return ACCEPTED, IMAGE_LENGTH, image_of(state)
+    return ACCEPTED, IMAGE_SIZE, image_of(state)
 
 
 def load(state, image):
@@ -585,12 +585,12 @@ def load(state, image):
     The image's cells are replaced, and then it powers up; whether the state was valid before
     doesn't matter.
     """
-    if len(image) != IMAGE_LENGTH:
-        return state, IMAGE_LENGTH_WRONG
-    if not image.startswith(IMAGE_MARK):
-        return state, MARK_WRONG
-    if image[len(IMAGE_MARK) : IMAGE_HEAD] != IMAGE_VERSION:
-        return state, VERSION_WRONG
+    if len(image) != IMAGE_SIZE:
+        return state, IMAGE_LENGTH
+    if not image.startswith(MARK):
+        return state, IMAGE_MARK
+    if image[len(MARK) : IMAGE_HEAD] != VERSION:
+        return state, IMAGE_VERSION
     stored = stored_of(image)
     if not is_valid_stored(stored):
         return state, INVALID
@@ -650,7 +650,7 @@ def format_not_hex():
 def split_lines(log):
     """The lines of an input, each without its line feed; the last one may lack it."""
     lines = log.split(b"\n")
-    # what stands behind the last line feed is a line if it has a character
+    # what follows the last line feed is a line if it has a character
     return lines if lines[-1] else lines[:-1]
 
 

@@ -110,7 +110,7 @@ def changed(state, changes):
 
 def with_byte(part, at, byte, layout=STATE):
     """A state, or a part of one, with one byte replaced; only the fields that hold it are made
-    anew."""
+    again."""
     if layout not in SPANS:
         raw = pack(part, layout)
         return unpacked(raw[:at] + bytes([byte]) + raw[at + 1 :], part, layout)
@@ -181,6 +181,27 @@ FILLED = changed(
 
 # What a power-up changes in it, and in any state once the working settings are the stored ones.
 START = {"live.rssi": "80 80", "live.events": "00", "live.flags": "00"}
+
+# A state that is invalid in its flags alone.
+NO_MODE = changed(FILLED, {"live.flags": "05"})
+
+# ---- The image of that state -----------------------------------------------------------------
+
+IMAGE_HEAD = "53 57 42 00 01"  # SWB, 0001
+FILLED_IMAGE = bytes.fromhex(
+    f"{IMAGE_HEAD} {FILLED_NAME} F1 F2 F3 D1 D2 D3 D4 A1 A2 A3 A4"
+    " 91 93 EC 1F 05 04 0F 01 12 01 05 0E 01 12 02"
+    f" {FILLED_SLOTS} 95"
+)
+
+
+def with_bytes(image, changes):
+    """An image with other bytes from some places on, which are given as text."""
+    for at, text in changes.items():
+        new = bytes.fromhex(text)
+        image = image[:at] + new + image[at + len(new) :]
+    return image
+
 
 # ---- The limits of validity ------------------------------------------------------------------
 

@@ -17,23 +17,39 @@ import subprocess
 import sys
 import tempfile
 
-ROOT = pathlib.Path(__file__).resolve().parent.parent
-sys.path.insert(0, str(ROOT / "bench"))
+sys.path.append(str(pathlib.Path(__file__).resolve().parent.parent / "bench"))
 sys.dont_write_bytecode = True  # leaves no files beside the tests
 
 import reference
 import traffic
-from library import POINTER, SIZE, Calls, Memory, Problem, load, run_test
+from cases import refused_payloads
+from entries import FILLER, OUTCOME, random_buffer
+from library import POINTER, ROOT, SIZE, Calls, Memory, Problem, load, run_test
+from logs import (
+    BORDER,
+    HOSTILE_LINES,
+    border_log,
+    broken_text,
+    dump,
+    fill_cells,
+    hex_text,
+    log_of,
+    padding,
+    text_of,
+)
 from payloads import (
     COMMANDS,
     edge_payloads,
     frame,
     likely_payload,
     permitted_commands,
+    random_block,
     swept_commands,
     swept_values,
 )
 from reference import FACTORY_STATE, PROGRAM, READ, READ_NV, WRITE
+from refusals import OWN
+from replays import REPLAY, Comparison, difference, run_on_file, runnable
 from states import (
     FILLED,
     STATE,
@@ -47,26 +63,7 @@ from states import (
     settings_edges,
     slot_edges,
 )
-from test_entries import FILLER, OUTCOME, random_block, random_buffer
-from test_numbers import refused_payloads
-from test_replay import (
-    BORDER,
-    HOSTILE_LINES,
-    Comparison,
-    border_log,
-    broken_text,
-    difference,
-    dump,
-    fill_cells,
-    hex_text,
-    log_of,
-    padding,
-    run_on_file,
-    runnable,
-    text_of,
-)
 
-REPLAY = ROOT / "target" / "bin" / "replay"
 SEED = 20240005
 
 # ---- Building --------------------------------------------------------------------------------
@@ -133,7 +130,7 @@ def line_of(payload, wake=0):
 
 
 def shown(payload, wake=0):
-    """The line of a payload and, behind one that could store, those that show what it stored: the
+    """The line of a payload and, after one that could store, those that show what it stored: the
     cell's two copies and the status; or every cell for 81 and 82, which find all cells filled."""
     line = line_of(payload, wake)
     if payload[:1] in (b"\x81", b"\x82") and len(payload) <= 2:
@@ -165,7 +162,7 @@ def check_payloads(logs, rng):
 
 def check_items(logs, rng):
     """Every item number with every command, in each length up to two bytes over a whole Program. What
-    stands behind the item is accepted as most values, and as an index with a row."""
+    follows the item is accepted as most values, and as an index with a row."""
     for command in COMMANDS:
         lines = fill_cells()
         for item, size in itertools.product(range(256), range(9)):
@@ -176,7 +173,7 @@ def check_items(logs, rng):
 
 
 def check_sequences(logs, rng):
-    """Commands that are mostly accepted and meet what earlier ones stored, behind 0, 1, 16 or 17 wake
+    """Commands that are mostly accepted and meet what earlier ones stored, after 0, 1, 16 or 17 wake
     bytes; the last are one too many, and then nothing may be stored."""
     for number in range(4):
         lines = []
@@ -286,7 +283,6 @@ LOG_CHECKS = (
 )
 LEAST_LINES = 400_000  # of all logs
 LEAST_SEEN = 100  # of each refusal, and of each command with an item that permits it
-PRINTED_REFUSALS = set(range(3, 13))  # those of a block on a valid state with a whole buffer
 
 
 def check_logs_coverage(logs):
@@ -296,7 +292,7 @@ def check_logs_coverage(logs):
     if logs.not_hex < LEAST_SEEN:
         raise Problem(f"only {logs.not_hex} lines were not hex")
     for name, wanted, seen in (
-        ("refusals", PRINTED_REFUSALS, logs.refused),
+        ("refusals", OWN["replay"], logs.refused),
         ("accepted commands and items", permitted_commands(), logs.accepted),
     ):
         rare = {key for key in wanted if seen[key] < LEAST_SEEN}
@@ -370,7 +366,7 @@ MODULE_CHECKS = (check_factory, check_states, check_status, check_blocks)
 
 def check_module_coverage(name, module):
     """Each refusal of a block came, and acceptance, but 2 where the peer doesn't ask."""
-    wanted = set(range(13)) - (set() if module.asks else {reference.INVALID})
+    wanted = {0, *OWN["cdi_execute"]} - (set() if module.asks else {reference.INVALID})
     if set(module.seen) != wanted or min(module.seen.values()) < 5:
         raise Problem(f"the calls of {name} by refusal are too few: {sorted(module.seen.items())}")
 
@@ -378,11 +374,12 @@ def check_module_coverage(name, module):
 # ---- The run ---------------------------------------------------------------------------------
 
 
-def compare_logs(folder):
+def compare_logs(folder, checks, whole):
     logs = Logs(programs(folder))
-    for check in LOG_CHECKS:
+    for check in checks:
         check(logs, random.Random(SEED))
-    check_logs_coverage(logs)
+    if whole:
+        check_logs_coverage(logs)
     refused = ", ".join(f"{number}: {logs.refused[number]}" for number in sorted(logs.refused))
     print(
         f"{logs.lines} lines of the replay program and of {len(BUILDS)} builds of the C peer agree: "
@@ -390,21 +387,25 @@ def compare_logs(folder):
     )
 
 
-def compare_modules(folder):
+def compare_modules(folder, checks, whole):
     for name, library in modules(folder):
         module = Module(library, asks=name == "peer")
-        for check in MODULE_CHECKS:
+        for check in checks:
             check(module, random.Random(SEED))
-        check_module_coverage(name, module)
+        if whole:
+            check_module_coverage(name, module)
         print(f"{module.calls} calls of the module of {name} and of the reference agree")
 
 
-def main():
+def main(checks, whole):
     runnable(REPLAY)
+    parts = (compare_logs, LOG_CHECKS), (compare_modules, MODULE_CHECKS)
     with tempfile.TemporaryDirectory() as folder:
-        compare_logs(pathlib.Path(folder))
-        compare_modules(pathlib.Path(folder))
+        for compare, known in parts:
+            chosen = [check for check in checks if check in known]
+            if chosen:
+                compare(pathlib.Path(folder), chosen, whole)
 
 
 if __name__ == "__main__":
-    run_test("bench", main)
+    run_test(LOG_CHECKS + MODULE_CHECKS, main)

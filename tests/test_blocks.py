@@ -9,10 +9,10 @@ import sys
 sys.dont_write_bytecode = True  # leaves no files beside the tests
 
 import reference
-from library import load, run_test, sdk
+from entries import FILLER, Comparison, load_entries
+from library import run_test
 from payloads import WRAPS, edge_payloads, frame, random_payload
 from reference import FACTORY_STATE, PROGRAM, READ, WRITE
-from test_entries import FILLER, SIGNATURES, Comparison
 
 SEED = 20240001
 
@@ -142,24 +142,24 @@ def check_slot_values(sweep, rng):
 # ---- The run ---------------------------------------------------------------------------------
 
 CHECKS = (
-    ("frames by wake count and length byte", check_frame_lengths),
-    ("damaged frames", check_frame_damage),
-    ("random blocks", check_frame_random),
-    ("payloads of at most two bytes", check_short_payloads),
-    ("payloads by command, item, length, index, value", check_edge_payloads),
-    ("random payloads", check_random_payloads),
-    ("indexes", check_indexes),
-    ("values", check_values),
-    ("values of analog inputs", check_analog_input_values),
-    ("values of slots", check_slot_values),
+    check_frame_lengths,
+    check_frame_damage,
+    check_frame_random,
+    check_short_payloads,
+    check_edge_payloads,
+    check_random_payloads,
+    check_indexes,
+    check_values,
+    check_analog_input_values,
+    check_slot_values,
 )
 
 
-def main():
-    sweep = Sweep(load(sdk() / "lib" / "libcdi.so", SIGNATURES))
-    sweep.run(CHECKS, SEED)
+def main(checks, whole):
+    sweep = Sweep(load_entries())
+    sweep.run(checks, SEED)
     print(f"{sweep.calls:,} calls agree")
 
 
 if __name__ == "__main__":
-    run_test("blocks", main)
+    run_test(CHECKS, main)

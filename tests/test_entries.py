@@ -8,42 +8,40 @@ of the inputs and of the buffers afterwards are compared; each of them lies betw
 The first difference ends the run with exit status 1.
 """
 
-import collections
-import ctypes
 import itertools
 import sys
 
 sys.dont_write_bytecode = True  # leaves no files beside the tests
 
 import reference
-from library import BYTE, POINTER, SIZE, Calls, Memory, Problem, load, run_test, sdk, struct
+from entries import FILLER, SIGNATURES, Comparison, load_entries, random_buffer
+from library import Problem, run_test
 from payloads import (
     WRAPS,
     edge_payloads,
     frame,
-    likely_payload,
     permitted_commands,
+    random_block,
     random_payload,
     swept_commands,
     swept_values,
 )
-from reference import FACTORY_STATE, PROGRAM, READ, READ_NV, WRITE
+from reference import FACTORY_STATE, PROGRAM, WRITE
+from refusals import OWN
 from states import (
     COPIES,
     DEFAULTS,
     FILLED,
-    FILLED_NAME,
+    FILLED_IMAGE,
     FILLED_NV,
-    FILLED_SLOTS,
     FILLED_STORED,
+    IMAGE_HEAD,
+    NO_MODE,
     START,
-    STATE,
     STATE_SIZE,
     accepted_value,
     any_state,
     changed,
-    first_difference,
-    first_place,
     flags_edges,
     name_edges,
     packed,
@@ -55,225 +53,14 @@ from states import (
     slot_edges,
     unpacked,
     with_byte,
+    with_bytes,
     with_live_cells,
 )
 
 SEED = 20240003
 
-# ---- The library -----------------------------------------------------------------------------
-
-# Each entry's result and arguments. A state, like any memory, is handed over by its address.
-OUTCOME = struct(refusal=BYTE, length=SIZE)
-READOUT_RESULT = struct(refusal=BYTE, readout=ctypes.c_uint16)
-SIGNATURES = {
-    "cdi_factory": (STATE, ()),
-    "cdi_execute": (OUTCOME, (POINTER, POINTER, SIZE, POINTER, SIZE)),
-    "cdi_power_up": (BYTE, (POINTER,)),
-    "cdi_save": (OUTCOME, (POINTER, POINTER, SIZE)),
-    "cdi_load": (BYTE, (POINTER, POINTER, SIZE)),
-    "cdi_encode_command": (OUTCOME, (POINTER, SIZE, SIZE, POINTER, SIZE)),
-    "cdi_readout": (READOUT_RESULT, (POINTER, SIZE, ctypes.c_int16)),
-    "cdi_percent": (BYTE, (ctypes.c_uint16,)),
-}
-
-# ---- Comparing -------------------------------------------------------------------------------
-
-# What came of a block: the state afterwards, the numbers and the buffer.
-Executed = collections.namedtuple("Executed", "after refusal length response")
-
-# A buffer before a call.
-FILLER = bytes(range(0x21, 0x21 + 40))
-
 # The values that a byte of a slot takes in turn; other bytes take all.
 SOME_BYTES = (0x00, 0x01, 0x02, 0x05, 0x0B, 0x20, 0x55, 0x7F, 0x80, 0xAA, 0xEB, 0xFE, 0xFF)
-
-
-class Comparison(Calls):
-    """A method for each entry of the library: it calls the library and the reference, compares
-    what came, and returns it.
-
-    The state is laid into the memory that is handed over, or, `in_place`, it lies there already,
-    as the entry before has left it.
-    """
-
-    def __init__(self, library):
-        super().__init__(library)
-        self.state = Memory(STATE_SIZE, odd=True)
-        self.outcomes = collections.Counter()  # calls, by entry and refusal
-        self.accepted = collections.Counter()  # accepted blocks, by command and item
-
-    def agree(self, entry, expected, came, **inputs):
-        """Counts one call and compares its results and what it leaves in memory, by name."""
-        self.calls += 1
-        self.outcomes[entry, expected["refusal"]] += 1
-        if expected == came:
-            return
-        part = next(part for part in expected if expected[part] != came[part])
-        what = f"{part} of {entry}"
-        if part == "state" and isinstance(came[part], bytes):
-            what = f"{first_difference(expected[part], came[part])}, state after {entry}"
-        elif isinstance(expected[part], bytes) and isinstance(came[part], bytes):
-            what = f"byte {first_place(expected[part], came[part])} of the {part} of {entry}"
-        self.same(what, expected[part], came[part], **inputs)
-
-    def put(self, state, in_place=False):
-        """Lays a state into the memory, unless it lies there already; its bytes."""
-        raw = packed(state)
-        if not in_place:
-            self.state.give(raw)
-        return raw
-
-    def factory(self):
-        came = {"refusal": 0, "state": bytes(self.library.cdi_factory())}
-        self.agree("cdi_factory", {"refusal": 0, "state": packed(FACTORY_STATE)}, came)
-        return came["state"]
-
-    def execute(self, state, block, response, in_place=False):
-        given = self.put(state, in_place)
-        outcome = self.library.cdi_execute(
-            self.state.address,
-            self.input.give(block),
-            len(block),
-            self.output.give(response),
-            len(response),
-        )
-        after, refusal, length, buffer = reference.execute(state, block, response)
-        expected = {
-            "refusal": refusal,
-            "length": length,
-            "response": buffer,
-            "block": block,
-            "state": packed(after),
-        }
-        came = {
-            "refusal": outcome.refusal,
-            "length": outcome.length,
-            "response": self.output.content(),
-            "block": self.input.content(),
-            "state": self.state.content(),
-        }
-        self.agree("cdi_execute", expected, came, state=given, block=block, response=response)
-        self.count_accepted(buffer[3:length])
-        return Executed(after, refusal, length, buffer)
-
-    def count_accepted(self, answer):
-        """Counts an accepted block by the command and item that the response's payload tells."""
-        if answer and answer[0] == 0xC0:
-            self.accepted[answer[2], answer[3] if len(answer) > 3 else None] += 1
-        elif answer:
-            self.accepted[{0xC1: READ, 0xC2: READ_NV}[answer[0]], answer[1]] += 1
-
-    def power_up(self, state, in_place=False):
-        given = self.put(state, in_place)
-        refusal = self.library.cdi_power_up(self.state.address)
-        came = {"refusal": refusal, "state": self.state.content()}
-        after, refusal = reference.power_up(state)
-        expected = {"refusal": refusal, "state": packed(after)}
-        self.agree("cdi_power_up", expected, came, state=given)
-        return after, refusal
-
-    def save(self, state, image, in_place=False):
-        given = self.put(state, in_place)
-        address = self.output.give(image)
-        outcome = self.library.cdi_save(self.state.address, address, len(image))
-        refusal, length, buffer = reference.save(state, image)
-        expected = {"refusal": refusal, "length": length, "image": buffer, "state": given}
-        came = {
-            "refusal": outcome.refusal,
-            "length": outcome.length,
-            "image": self.output.content(),
-            "state": self.state.content(),
-        }
-        self.agree("cdi_save", expected, came, state=given, image=image)
-        return refusal, length, buffer
-
-    def load(self, state, image, in_place=False):
-        given = self.put(state, in_place)
-        address = self.input.give(image)
-        refusal = self.library.cdi_load(self.state.address, address, len(image))
-        came = {
-            "refusal": refusal,
-            "image": self.input.content(),
-            "state": self.state.content(),
-        }
-        after, refusal = reference.load(state, image)
-        expected = {"refusal": refusal, "image": image, "state": packed(after)}
-        self.agree("cdi_load", expected, came, state=given, image=image)
-        return after, refusal
-
-    def encode(self, payload, wake, frame):
-        address = self.input.give(payload)
-        outcome = self.library.cdi_encode_command(
-            address, len(payload), wake, self.output.give(frame), len(frame)
-        )
-        refusal, length, buffer = reference.encode_command(payload, wake, frame)
-        expected = {"refusal": refusal, "length": length, "frame": buffer, "payload": payload}
-        came = {
-            "refusal": outcome.refusal,
-            "length": outcome.length,
-            "frame": self.output.content(),
-            "payload": self.input.content(),
-        }
-        self.agree("cdi_encode_command", expected, came, payload=payload, wake=wake, frame=frame)
-        return refusal, length, buffer
-
-    def readout(self, readings, offset):
-        given = b"".join([reading.to_bytes(2, sys.byteorder) for reading in readings])
-        result = self.library.cdi_readout(self.input.give(given), len(readings), offset)
-        refusal, number = reference.readout(readings, offset)
-        expected = {"refusal": refusal, "readout": number, "readings": given}
-        came = {
-            "refusal": result.refusal,
-            "readout": result.readout,
-            "readings": self.input.content(),
-        }
-        self.agree("cdi_readout", expected, came, readings=readings, offset=offset)
-        return refusal, number
-
-    def percent(self, readout):
-        came = {"refusal": 0, "percent": self.library.cdi_percent(readout)}
-        expected = {"refusal": 0, "percent": reference.percent(readout)}
-        self.agree("cdi_percent", expected, came, readout=readout)
-        return expected["percent"]
-
-    # What is written down, byte by byte, holds of the reference and so of the library.
-
-    def literal(self, state, block, expected, changes=None, response=FILLER[:22]):
-        """A block whose outcome is written down: the number of a refusal, or the response as
-        text, and the changes in the state where they are given."""
-        given = bytes.fromhex(block)
-        refusal, answer = (0, expected) if isinstance(expected, str) else (expected, "")
-        answer = bytes.fromhex(answer)
-        after, *came = self.execute(state, given, response)
-        inputs = {"state": packed(state), "block": given, "response": response}
-        wanted = [refusal, len(answer), answer + response[len(answer) :]]
-        self.same("a closed run", wanted, came, **inputs)
-        if changes is not None or refusal != 0:
-            self.same_state(changed(state, changes or {}), after, **inputs)
-        return after
-
-    def literal_power_up(self, state, refusal, changes=None):
-        """A power-up whose outcome is written down."""
-        after, came = self.power_up(state)
-        self.same("a closed power-up", refusal, came, state=packed(state))
-        self.same_state(changed(state, changes or {}), after, state=packed(state))
-
-    def literal_save(self, state, buffer, expected):
-        """A save whose outcome is written down: the number of a refusal, or the image."""
-        wanted = (expected, 0, buffer) if isinstance(expected, int) else (0, 249, expected)
-        came = self.save(state, buffer)
-        self.same("a closed save", wanted, came, state=packed(state), buffer=buffer)
-
-    def literal_load(self, state, image, refusal, changes=None):
-        """A load whose outcome is written down."""
-        after, came = self.load(state, image)
-        self.same("a closed load", refusal, came, state=packed(state), image=image)
-        self.same_state(changed(state, changes or {}), after, state=packed(state), image=image)
-
-    def same_state(self, wanted, came, **inputs):
-        if wanted != came:
-            where = first_difference(packed(wanted), packed(came))
-            self.same(f"{where} of a closed run", packed(wanted), packed(came), **inputs)
 
 
 # ---- Examples of document 01 -----------------------------------------------------------------
@@ -536,15 +323,9 @@ def check_power_up(compare, rng):
 
 # ---- The stored image ------------------------------------------------------------------------
 
-IMAGE_HEAD = "53 57 42 00 01"  # SWB, 0001
 
 # What a load of the filled state's image changes, and that image.
 FILLED_LOAD = {**FILLED_STORED, "working.settings": FILLED_NV, **START}
-FILLED_IMAGE = bytes.fromhex(
-    f"{IMAGE_HEAD} {FILLED_NAME} F1 F2 F3 D1 D2 D3 D4 A1 A2 A3 A4"
-    " 91 93 EC 1F 05 04 0F 01 12 01 05 0E 01 12 02"
-    f" {FILLED_SLOTS} 95"
-)
 FACTORY_IMAGE = bytes.fromhex(
     IMAGE_HEAD + 28 * "00" + "00 00 00 06 00 FF 01 00 00 00 FF 01 00 00 00" + 201 * "00"
 )
@@ -580,14 +361,6 @@ BROKEN_IMAGES = (
     ({3: 246 * "FF"}, 19),
     ({5: 244 * "FF"}, 2),
 )
-
-
-def with_bytes(image, changes):
-    """An image with other bytes from some places on, which are given as text."""
-    for at, text in changes.items():
-        new = bytes.fromhex(text)
-        image = image[:at] + new + image[at + len(new) :]
-    return image
 
 
 def check_image(compare, rng):
@@ -678,7 +451,6 @@ REFUSED_BLOCKS = (
     ("80 55 83 01 16 00", 11),
     ("80 55 83 02 15 07", 12),
 )
-NO_MODE = changed(FILLED, {"live.flags": "05"})
 
 
 def check_short_buffers(compare, rng):
@@ -756,25 +528,6 @@ def check_every_byte(compare, rng):
 
 
 # ---- Random states and blocks ----------------------------------------------------------------
-
-
-def random_block(rng):
-    """A block: mostly a whole frame, often of a command that is accepted, else a damaged one."""
-    payload = likely_payload(rng) if rng.random() < 0.7 else random_payload(rng)
-    block = frame(rng.choice((0, 0, 0, 1, 2, 16, 17)), payload)
-    kind = rng.random()
-    if kind < 0.8:
-        return block
-    if kind < 0.95:
-        at = rng.randrange(len(block))
-        change = rng.choice((b"", b"\xff", b"\x00", rng.randbytes(1), rng.randbytes(2)))
-        return block[:at] + change + block[at + rng.randrange(2) :]
-    return rng.choice((b"", rng.randbytes(rng.randrange(30)), block + bytes(rng.choice(WRAPS))))
-
-
-def random_buffer(rng):
-    """A response buffer of 0 to 40 bytes, mostly of the 22 that are enough."""
-    return rng.randbytes(rng.randrange(22, 41) if rng.random() < 0.8 else rng.randrange(22))
 
 
 def check_frames(compare, rng):
@@ -963,54 +716,45 @@ def check_sequences(compare, rng):
 # ---- The run ---------------------------------------------------------------------------------
 
 CHECKS = (
-    ("examples", check_examples),
-    ("factory state", check_factory),
-    ("items shown", check_shown),
-    ("items stored", check_stored),
-    ("names", check_names),
-    ("status", check_status),
-    ("power-up", check_power_up),
-    ("image", check_image),
-    ("image: order of refusals", check_image_order),
-    ("image: lengths", check_image_lengths),
-    ("image: every byte", check_image_bytes),
-    ("image: random", check_random_images),
-    ("short buffers", check_short_buffers),
-    ("validity of settings", check_settings_validity),
-    ("validity of flags", check_flags_validity),
-    ("validity of names", check_name_validity),
-    ("validity of slots", check_slot_validity),
-    ("validity by every byte", check_every_byte),
-    ("frames", check_frames),
-    ("payloads by command, item, length, index, value", check_payloads),
-    ("served commands", check_served_commands),
-    ("random blocks", check_random_blocks),
-    ("command writer", check_writer),
-    ("written frames read back", check_written_frames),
-    ("readouts", check_readout),
-    ("readouts at their ends", check_readout_ends),
-    ("every readout and percent", check_every_readout),
-    ("sequences", check_sequences),
+    check_examples,
+    check_factory,
+    check_shown,
+    check_stored,
+    check_names,
+    check_status,
+    check_power_up,
+    check_image,
+    check_image_order,
+    check_image_lengths,
+    check_image_bytes,
+    check_random_images,
+    check_short_buffers,
+    check_settings_validity,
+    check_flags_validity,
+    check_name_validity,
+    check_slot_validity,
+    check_every_byte,
+    check_frames,
+    check_payloads,
+    check_served_commands,
+    check_random_blocks,
+    check_writer,
+    check_written_frames,
+    check_readout,
+    check_readout_ends,
+    check_every_readout,
+    check_sequences,
 )
 
-# The outcomes that each entry has by the paper; 0 is accepted.
-OUTCOMES = {
-    "cdi_factory": (0,),
-    "cdi_execute": range(13),
-    "cdi_power_up": (0, 2),
-    "cdi_save": (0, 2, 17),
-    "cdi_load": (0, 2, 17, 18, 19),
-    "cdi_encode_command": (0, 3, *range(7, 15)),
-    "cdi_readout": (0, 15, 16),
-    "cdi_percent": (0,),
-}
+# The outcomes that each entry has; 0 is accepted.
+OUTCOMES = {entry: sorted({0, *OWN.get(entry, ())}) for entry in SIGNATURES}
 LEAST_SEEN = 100  # of each outcome
 
 
 def check_coverage(compare):
     """Every outcome and every permitted command was seen; else the checks above are too thin."""
     wanted = {(entry, number) for entry, numbers in OUTCOMES.items() for number in numbers}
-    if wanted != set(compare.outcomes) or set(OUTCOMES) != set(SIGNATURES):
+    if wanted != set(compare.outcomes):
         raise Problem(f"outcomes that are or aren't seen: {wanted ^ set(compare.outcomes)}")
     for (entry, number), seen in compare.outcomes.items():
         if seen < LEAST_SEEN:
@@ -1019,15 +763,16 @@ def check_coverage(compare):
         raise Problem(f"not accepted: {permitted_commands() - set(compare.accepted)}")
 
 
-def main():
-    compare = Comparison(load(sdk() / "lib" / "libcdi.so", SIGNATURES))
-    compare.run(CHECKS, SEED)
-    check_coverage(compare)
-    for entry, numbers in OUTCOMES.items():
-        seen = ", ".join(f"{number}: {compare.outcomes[entry, number]}" for number in numbers)
-        print(f"{entry} by outcome: {seen}")
-    print(f"{compare.calls:,} calls of {len(OUTCOMES)} entries agree")
+def main(checks, whole):
+    compare = Comparison(load_entries())
+    compare.run(checks, SEED)
+    if whole:
+        check_coverage(compare)
+        for entry, numbers in OUTCOMES.items():
+            seen = ", ".join(f"{number}: {compare.outcomes[entry, number]}" for number in numbers)
+            print(f"{entry} by outcome: {seen}")
+    print(f"{compare.calls:,} calls of {len({entry for entry, _ in compare.outcomes})} entries agree")
 
 
 if __name__ == "__main__":
-    run_test("entries", main)
+    run_test(CHECKS, main)

@@ -13,7 +13,9 @@ import subprocess
 import sys
 import tempfile
 
-ROOT = os.path.dirname(os.path.dirname(os.path.abspath(__file__)))
+sys.dont_write_bytecode = True  # leaves no files beside the tests
+
+from library import ROOT, Problem, run_test
 
 
 def write(path, text):
@@ -33,6 +35,10 @@ def scratch(copy):
 
 
 def no_fault(copy):
+    pass
+
+
+def no_tools(copy):
     pass
 
 
@@ -100,54 +106,63 @@ def without_tools(folder):
     return folder
 
 
-# The fault, whether the gate's tools are on the PATH, and what the gate has to say.
-CASES = [
-    (unlisted_crate, True, "crates/stray/src/lib.rt"),
-    (unproved_function, True, "the proofs failed"),
-    (edit_that_is_proved, True, "NOT REFUSED"),
-    (bad_layout, True, "rt fmt --check: FAILED"),
-    (empty_list, True, "the proofs failed"),
-    (missing_list, True, "the proofs failed"),
-    (failing_test, True, "tests/test_other.py: FAILED"),
-    (killed_test, True, "tests/test_other.py: FAILED"),
-    (quoted_test, True, 'tests/test_"sample".py: FAILED'),
-    (spaced_test, True, "tests/test_ sample.py: FAILED"),
-    (silent_test, True, "tests/below/test_silent.py: FAILED"),
-    (other_test, True, "tests/test_other.txt: FAILED"),
-    (no_test, True, "no test under tests/"),
-    (no_fault, False, "'rt' is not on the PATH"),
-]
+# Each fault, with what the gate has to say; without a fault it passes. The tools are on the PATH but for the last case.
+CASES = {
+    no_fault: None,
+    unlisted_crate: "crates/stray/src/lib.rt",
+    unproved_function: "the proofs failed",
+    edit_that_is_proved: "NOT REFUSED",
+    bad_layout: "rt fmt --check: FAILED",
+    empty_list: "the proofs failed",
+    missing_list: "the proofs failed",
+    failing_test: "tests/test_other.py: FAILED",
+    killed_test: "tests/test_other.py: FAILED",
+    quoted_test: 'tests/test_"sample".py: FAILED',
+    spaced_test: "tests/test_ sample.py: FAILED",
+    silent_test: "tests/below/test_silent.py: FAILED",
+    other_test: "tests/test_other.txt: FAILED",
+    no_test: "no test under tests/",
+    no_tools: "'rt' is not on the PATH",
+}
 
 
-def gate(fault, tools):
-    """What the gate prints and its exit status on a scratch copy with the fault."""
+def gate(fault):
+    """The gate's exit status, its tally and what it prints, on a scratch copy with the fault."""
     with tempfile.TemporaryDirectory() as room:
         copy = os.path.join(room, "copy")
         scratch(copy)
         fault(copy)
         environment = dict(os.environ)
-        if not tools:
+        if fault is no_tools:
             os.mkdir(os.path.join(room, "bin"))
             environment["PATH"] = without_tools(os.path.join(room, "bin"))
         command = [shutil.which("sh"), os.path.join(copy, ".ci", "run")]
         run = subprocess.run(command, capture_output=True, text=True, env=environment, timeout=300)
     tally = re.fullmatch(r"(\d+) passed, (\d+) failed", run.stdout.strip().split("\n")[-1])
     if not tally:
-        sys.exit("%s: the gate does not end in its tally:\n%s" % (fault.__name__, run.stdout))
+        raise Problem(f"{fault.__name__}: the gate does not end in its tally:\n{run.stdout}")
     return run.returncode, int(tally.group(1)), int(tally.group(2)), run.stdout
 
 
-def main():
-    status, passed, failed, text = gate(no_fault, True)
-    if status != 0 or failed != 0 or passed == 0:
-        sys.exit("the gate does not pass on a good copy:\n%s" % text)
-    for fault, tools, word in CASES:
-        status, passed, failed, text = gate(fault, tools)
-        if status == 0 or failed == 0:
-            sys.exit("%s: the gate passes:\n%s" % (fault.__name__, text))
-        if word not in text:
-            sys.exit("%s: the gate does not say %r:\n%s" % (fault.__name__, word, text))
-    print("the gate passes on a good copy and fails on each of %d faulty ones" % len(CASES))
+def check(fault):
+    status, passed, failed, text = gate(fault)
+    word = CASES[fault]
+    if word is None:
+        if status != 0 or failed != 0 or passed == 0:
+            raise Problem(f"the gate does not pass on a good copy:\n{text}")
+    elif status == 0 or failed == 0:
+        raise Problem(f"{fault.__name__}: the gate passes:\n{text}")
+    elif word not in text:
+        raise Problem(f"{fault.__name__}: the gate does not say {word!r}:\n{text}")
 
 
-main()
+def main(faults, whole):
+    for fault in faults:
+        check(fault)
+    failing = [fault for fault in faults if CASES[fault]]
+    passes = "passes on a good copy and " if no_fault in faults else ""
+    print(f"the gate {passes}fails on each of {len(failing)} faulty ones")
+
+
+if __name__ == "__main__":
+    run_test(CASES, main)

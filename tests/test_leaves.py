@@ -2,9 +2,10 @@
 """Compares what no entry of the C library shows with reference.py, call by call: lines of hex, the
 lines of a log that are answered in a buffer, and an analog input's offset as a number.
 
-Builds the crate `probe` as a shared library and calls its functions over the examples of document 01, over edges and over random inputs of a fixed seed. Every buffer that is handed over
-lies between guard bytes; guards, inputs and all bytes of the outputs are compared too. The
-first difference ends the run with exit status 1.
+Builds the crate `probe` as a shared library and calls its functions over the examples of document
+01, over edges and over random inputs of a fixed seed. Every buffer that is handed over lies between
+guard bytes; guards, inputs and all bytes of the outputs are compared too. The first difference ends
+the run with exit status 1.
 """
 
 import ctypes
@@ -63,8 +64,8 @@ class Comparison(Calls):
         expected = int.from_bytes(row[3:], "big", signed=True)
         return self.called("probe_signed_offset", expected, came, row=row)
 
-    def read_line_at(self, text, start, buffer, behind=b""):
-        """The line that starts at a place of a text. What stands behind the text is none of it."""
+    def read_line_at(self, text, start, buffer, after=b""):
+        """The line that starts at a place of a text. What follows the text is no part of it."""
         line, end = reference.line_at(text, start)
         block = reference.parse_line(line)
         if block is None:
@@ -73,12 +74,12 @@ class Comparison(Calls):
             expected = 2, 0, end, buffer
         else:
             expected = 0, len(block), end, block + buffer[len(block) :]
-        given = self.input.give(text + behind)
+        given = self.input.give(text + after)
         result = self.library.probe_read_line_at(
             given, len(text), start, self.output.give(buffer), len(buffer)
         )
         came = result.answer, result.length, result.end, self.output.content()
-        inputs = {"text": text, "start": start, "buffer": buffer, "behind": behind}
+        inputs = {"text": text, "start": start, "buffer": buffer, "after": after}
         return self.called("probe_read_line_at", expected, came, **inputs)
 
     def written(self, function, arguments, text, out, **inputs):
@@ -167,7 +168,7 @@ REFUSED_EXAMPLES = ((12, "refused 12\n"), (10, "refused 10\n"))
 
 
 def check_example_lines(compare, rng):
-    """The paper's example lines: read as the bytes they show, and printed as they stand."""
+    """The paper's example lines: read as the bytes they show, and printed as they are."""
     for text in BLOCK_EXAMPLES + PRINTED_EXAMPLES:
         line, block = text.encode("ascii"), bytes.fromhex(text)
         answer, length, end, buffer = compare.read_line_at(line, 0, rng.randbytes(40))
@@ -294,18 +295,18 @@ def check_lines_of_texts(compare, rng):
 
 
 def check_short_texts(compare, rng):
-    """Every short text over a few characters from every place; what would go on with a line stands
-    behind some of them."""
+    """Every short text over a few characters from every place; what would go on with a line
+    follows some of them."""
     for size in range(7):
         for letters in itertools.product(b"A \n\r", repeat=size):
             text = bytes(letters)
             for start in range(size + 2):
-                behind = rng.choice((b"", b"A", b"AA", b" AA", b"\n", b"A\n"))
-                compare.read_line_at(text, start, rng.randbytes(rng.randrange(4)), behind)
+                after = rng.choice((b"", b"A", b"AA", b" AA", b"\n", b"A\n"))
+                compare.read_line_at(text, start, rng.randbytes(rng.randrange(4)), after)
 
 
 def check_cut_texts(compare, rng):
-    """Texts that end anywhere in a line, with the rest of it behind them."""
+    """Texts that end anywhere in a line, with the rest of it after them."""
     long_line, short_line = line_of(rng.randbytes(20)), line_of(rng.randbytes(3))
     whole = b"\n80 55 0F\n" + long_line + b"\r\n" + short_line + b" \n"
     for size in range(len(whole) + 1):
@@ -373,7 +374,7 @@ def log_of(rng, count):
 
 
 def check_lines_of_logs(compare, rng):
-    """Logs read line by line, each from behind the last one's line feed, and from any place."""
+    """Logs read line by line, each from after the last one's line feed, and from any place."""
     for count in (0, 1, 2, 7, 40, 300):
         log = log_of(rng, count)
         start, lines = 0, 0
@@ -424,30 +425,30 @@ def check_long_logs(compare, rng):
 # ---- The run ---------------------------------------------------------------------------------
 
 CHECKS = (
-    ("example lines", check_example_lines),
-    ("offsets of analog inputs", check_offsets),
-    ("lines of random blocks", check_lines_of_blocks),
-    ("lines by buffer size", check_line_buffers),
-    ("long lines", check_long_lines),
-    ("changed lines", check_changed_lines),
-    ("lines of texts", check_lines_of_texts),
-    ("short texts", check_short_texts),
-    ("cut texts", check_cut_texts),
-    ("long lines of texts", check_long_lines_of_texts),
-    ("lines of logs", check_lines_of_logs),
-    ("printed blocks", check_written_blocks),
-    ("printed words", check_written_words),
-    ("logs by buffer size", check_log_rooms),
-    ("logs of any bytes", check_log_bytes),
-    ("long logs", check_long_logs),
+    check_example_lines,
+    check_offsets,
+    check_lines_of_blocks,
+    check_line_buffers,
+    check_long_lines,
+    check_changed_lines,
+    check_lines_of_texts,
+    check_short_texts,
+    check_cut_texts,
+    check_long_lines_of_texts,
+    check_lines_of_logs,
+    check_written_blocks,
+    check_written_words,
+    check_log_rooms,
+    check_log_bytes,
+    check_long_logs,
 )
 
 
-def main():
+def main(checks, whole):
     compare = Comparison(build("probe", SIGNATURES))
-    compare.run(CHECKS, SEED)
+    compare.run(checks, SEED)
     print(f"{compare.calls:,} calls agree")
 
 
 if __name__ == "__main__":
-    run_test("leaves", main)
+    run_test(CHECKS, main)

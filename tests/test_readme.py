@@ -1,7 +1,6 @@
 #!/usr/bin/env python3
 """Runs the README's replay command and holds what it prints against the README and reference.py."""
 
-import pathlib
 import re
 import subprocess
 import sys
@@ -9,33 +8,39 @@ import sys
 sys.dont_write_bytecode = True  # leaves no files beside the tests
 
 import reference
+from library import ROOT, Problem, run_test
 
-ROOT = pathlib.Path(__file__).resolve().parent.parent
-COMMAND = "./replay < examples/session.log"
+COMMANDS = "    ./replay < examples/session.log", "    .ci/run"
 PATIENCE = 500  # seconds; the first use proves and builds the program
 ROW = re.compile(r"^\| `([0-9A-F ]+)` \| `([0-9A-F ]+|refused \d+)` \|", re.MULTILINE)
 
 
-def fail(message):
-    print(message)
-    sys.exit(1)
+def readme():
+    return (ROOT / "README.md").read_text(encoding="utf-8")
 
 
-def main():
-    readme = (ROOT / "README.md").read_text(encoding="utf-8")
-    if COMMAND not in readme or "    .ci/run" not in readme:
-        fail("the README does not name its two commands")
-    rows = ROW.findall(readme)
+def check_commands():
+    """The README names its two commands."""
+    missing = [command.strip() for command in COMMANDS if command not in readme()]
+    if missing:
+        raise Problem(f"the README does not name {missing}")
+    return f"the README names {len(COMMANDS)} commands"
+
+
+def check_replay():
+    """The first command prints the lines that the README shows, and the reference's."""
+    command, rows = COMMANDS[0].strip(), ROW.findall(readme())
     log = (ROOT / "examples" / "session.log").read_bytes()
-    run = subprocess.run(COMMAND, shell=True, cwd=ROOT, capture_output=True, timeout=PATIENCE)
+    run = subprocess.run(command, shell=True, cwd=ROOT, capture_output=True, timeout=PATIENCE)
     if run.returncode != 0:
-        fail(f"`{COMMAND}` ends with {run.returncode}: {run.stderr.decode()}")
-    given, printed = log.decode().splitlines(), run.stdout.decode().splitlines()
-    if len(rows) < 4 or rows != list(zip(given, printed))[: len(rows)]:
-        fail(f"the README shows {rows}, the command takes and prints {list(zip(given, printed))[:len(rows)]}")
+        raise Problem(f"`{command}` ends with {run.returncode}: {run.stderr.decode()}")
+    printed = list(zip(log.decode().splitlines(), run.stdout.decode().splitlines()))
+    if len(rows) < 4 or rows != printed[: len(rows)]:
+        raise Problem(f"the README shows {rows}, the command takes and prints {printed[:len(rows)]}")
     if run.stdout != reference.replay(log):
-        fail(f"`{COMMAND}` prints something else than the reference does")
-    print(f"the README's command prints its {len(printed)} lines, and the {len(rows)} that are shown")
+        raise Problem(f"`{command}` prints something else than the reference does")
+    return f"the first prints its {len(printed)} lines, and the {len(rows)} that are shown"
 
 
-main()
+if __name__ == "__main__":
+    run_test((check_commands, check_replay))

@@ -1,288 +1,63 @@
 #!/usr/bin/env python3
-"""Compares the replay program with reference.py, byte by byte, on generated logs.
+"""Compares the replay program with reference.py, byte by byte, on generated logs, and runs the script
+./replay around it.
 
-Each case starts the program anew, from the factory state, with the log as a file or through a
-pipe. The whole output, an exit status of 0 and standard error are compared, which is empty but
-where a read or a write fails. The first difference ends the run with exit status 1. Another program
-may be named as the argument.
+Each case starts the program again, from the factory state, with the log as a file or through a pipe. The
+whole output, the exit status and standard error are compared. Standard error is empty unless a read or a
+write fails. The program's exit status is 0; the script's is 1 where there was a message. The first
+difference ends the run with exit status 1.
 """
 
-import collections
+import contextlib
 import errno
-import fcntl
 import itertools
 import os
-import pathlib
 import random
-import re
-import struct
+import shutil
+import signal
 import subprocess
 import sys
 import tempfile
-import termios
-import time
-import tty
 
 sys.dont_write_bytecode = True  # leaves no files beside the tests
 
 import reference
 from library import ROOT, Problem, run_test
-from payloads import likely_payload, permitted_commands
+from logs import (
+    BORDER,
+    HOSTILE_LINES,
+    INPUTS,
+    ONE_BYTE_SETTINGS,
+    border_log,
+    broken_text,
+    command,
+    dump,
+    fill_cells,
+    guarded,
+    hex_text,
+    log_of,
+    padding,
+    random_line,
+    slot_value,
+    text_of,
+)
+from payloads import frame, permitted_commands
 from reference import ERASE_ALL_ADDRESSES, PROGRAM, READ, READ_NV, SET_DEFAULT, WRITE
+from refusals import OWN
+from replays import (
+    PATIENCE,
+    REPLAY,
+    WRAPPER,
+    Comparison,
+    Run,
+    broken_input,
+    run_on_descriptors,
+    run_on_file,
+    runnable,
+    started,
+)
 
-REPLAY = ROOT / "target" / "bin" / "replay"
 SEED = 20240002
-PATIENCE = 60  # seconds that a single run of the program may take
-
-# ---- Running the program ---------------------------------------------------------------------
-
-Run = collections.namedtuple("Run", "output errors status")
-
-
-def runnable(program):
-    """The program, if it is there to be run."""
-    if not os.access(program, os.X_OK):
-        raise Problem(f"there is no program {program}; build it first")
-    return program
-
-
-def run_on_file(program, log):
-    """Runs the program with the log as a file, which it can read in pieces as large as it asks."""
-    with tempfile.TemporaryFile() as given:
-        given.write(log)
-        given.seek(0)
-        done = subprocess.run([program], stdin=given, capture_output=True, timeout=PATIENCE)
-    return Run(done.stdout, done.stderr, done.returncode)
-
-
-def bytes_waiting(pipe):
-    """How many bytes lie in a pipe and haven't been read."""
-    return struct.unpack("i", fcntl.ioctl(pipe, termios.FIONREAD, bytes(4)))[0]
-
-
-def wait_until_taken(process):
-    """Waits until the program has emptied the pipe, so that the next write is a separate read."""
-    deadline = time.monotonic() + PATIENCE
-    while bytes_waiting(process.stdin) > 0 and process.poll() is None:
-        if time.monotonic() > deadline:
-            raise subprocess.TimeoutExpired(process.args, PATIENCE)
-        time.sleep(0)
-
-
-def write_in_pieces(process, log, size):
-    """Hands the log over in writes of the given size; the program may have ended before."""
-    try:
-        for start in range(0, len(log), size):
-            process.stdin.write(log[start : start + size])
-            wait_until_taken(process)
-    except BrokenPipeError:
-        pass  # the comparison tells what is missing in the output
-    process.stdin.close()
-
-
-def run_on_pieces(program, log, size):
-    """Runs the program with the log through a pipe, in pieces that it has to take one by one."""
-    with tempfile.TemporaryFile() as output, tempfile.TemporaryFile() as errors:
-        process = subprocess.Popen(
-            [program], stdin=subprocess.PIPE, stdout=output, stderr=errors, bufsize=0
-        )
-        try:
-            write_in_pieces(process, log, size)
-            status = process.wait(timeout=PATIENCE)
-        finally:
-            process.kill()
-            process.wait()
-        output.seek(0)
-        errors.seek(0)
-        return Run(output.read(), errors.read(), status)
-
-
-def run_on_descriptors(program, given, output):
-    """Runs the program on two open descriptors, and closes them; what came through the output is
-    empty unless that is a pipe."""
-    try:
-        done = subprocess.run(
-            [program], stdin=given, stdout=output, stderr=subprocess.PIPE, timeout=PATIENCE
-        )
-    finally:
-        for descriptor in {given, output} - {subprocess.PIPE}:
-            os.close(descriptor)
-    return Run(done.stdout or b"", done.stderr, done.returncode)
-
-
-def broken_input(log):
-    """A descriptor that gives the log, and then an error and not its end: a terminal whose other
-    side was closed."""
-    terminal, other_side = os.openpty()
-    tty.setraw(other_side)
-    os.write(other_side, log)
-    os.close(other_side)
-    return terminal
-
-
-# ---- Comparing -------------------------------------------------------------------------------
-
-
-def show(line):
-    """A line as text on one line, a very long one cut."""
-    if line is None:
-        return "no line"
-    text = f"{len(line)} bytes {line!r}"
-    return text if len(text) <= 1000 else text[:1000] + " ... (cut)"
-
-
-def first_difference(log, expected, output):
-    """Number, input line, expected line and printed line where two outputs part.
-
-    The lines keep their line feeds, so that a missing one is a difference too.
-    """
-    texts = (re.findall(rb"[^\n]*\n|[^\n]+", text) for text in (log, expected, output))
-    for number, lines in enumerate(itertools.zip_longest(*texts), 1):
-        if lines[1] != lines[2]:
-            return number, *lines
-
-
-def difference(name, log, expected, output):
-    """What is told of a case whose output differs."""
-    number, given, wanted, printed = first_difference(log, expected, output)
-    return "\n".join(
-        (
-            f"difference in {name}, line {number}",
-            f"  input:    {show(given)}",
-            f"  expected: {show(wanted)}",
-            f"  came:     {show(printed)}",
-        )
-    )
-
-
-class Comparison:
-    """Runs the program on logs, compares what it prints and counts what was seen."""
-
-    def __init__(self, program):
-        self.program = program
-        self.lines = 0
-        self.bytes = 0
-        self.not_hex = 0
-        self.refused = collections.Counter()  # by number
-        self.accepted = collections.Counter()  # by command and item
-
-    def log(self, name, log):
-        """Compares one run on a log as a file."""
-        self.compare(name, log, reference.replay(log), run_on_file(self.program, log))
-
-    def pieces(self, name, log, sizes):
-        """Compares a run on a log as a file with runs through a pipe, in pieces of each size."""
-        expected = reference.replay(log)
-        self.compare(f"{name}, as a file", log, expected, run_on_file(self.program, log))
-        for size in sizes:
-            run = run_on_pieces(self.program, log, size)
-            self.compare(f"{name}, in pieces of {size}", log, expected, run)
-
-    def literal(self, name, log, expected):
-        """Compares one run with an output known from the paper, which the reference gives too."""
-        by_reference = reference.replay(log)
-        if by_reference != expected:
-            raise Problem("the reference: " + difference(name, log, expected, by_reference))
-        self.compare(name, log, expected, run_on_file(self.program, log))
-
-    def failing(self, name, log, expected, run, what, error):
-        """Compares one run in which a read or a write fails, and what is said of it."""
-        message = f"replay: standard {what}: {os.strerror(error)}\n"
-        self.compare(name, log, expected, run, message.encode("ascii"))
-
-    def compare(self, name, log, expected, run, errors=b""):
-        """Raises a Problem if a run differs in any respect; otherwise it counts."""
-        if run.output != expected:
-            raise Problem(difference(name, log, expected, run.output))
-        if run.errors != errors:
-            raise Problem(f"standard error in {name}: {show(run.errors)} for {show(errors)}")
-        if run.status != 0:
-            raise Problem(f"exit status {run.status} in {name}")
-        self.count(log, run.output)
-
-    def count(self, log, output):
-        """Counts lines and outcomes by what was printed: C1 and C2 come before the item, C0 and
-        00 before the command and the item."""
-        printed = output.decode("ascii").splitlines()
-        self.lines += len(printed)
-        self.bytes += len(log)
-        for line in printed:
-            words = line.split(" ")
-            if words[0] == "refused":
-                self.refused[int(words[1])] += 1
-            elif words[0] == "not":
-                self.not_hex += 1
-            else:
-                shown = words[3:] if words[3] in ("C1", "C2") else words[5:]
-                code = {"C1": READ, "C2": READ_NV}.get(shown[0]) or int(shown[0], 16)
-                item = int(shown[1], 16) if len(shown) > 1 else None
-                self.accepted[code, item] += 1
-
-
-# ---- Lines and logs --------------------------------------------------------------------------
-
-
-def text_of(block):
-    """A block as a line of a log, without its line feed."""
-    return block.hex(" ").upper().encode("ascii")
-
-
-def frame(payload, wake=0):
-    """A frame by the paper's sentence, with any wake count and payload."""
-    return b"\x80" + wake * b"\xff" + b"\x55" + bytes([0x80 + len(payload)]) + payload
-
-
-def command(code, *parts, wake=0):
-    """The line of a command; its parts are bytes or single byte values."""
-    payload = bytes([code])
-    for part in parts:
-        payload += part if isinstance(part, bytes) else bytes([part])
-    return text_of(frame(payload, wake))
-
-
-def log_of(lines):
-    """A log with a line feed behind each line."""
-    return b"".join(line + b"\n" for line in lines)
-
-
-ONE_BYTE_SETTINGS = (0x11, 0x12, 0x13, 0x14, 0x15, 0x25)
-INPUTS = (1, 2)
-SLOTS = range(40)
-
-
-def dump():
-    """Lines that show every cell that a command can show, with Read and with Read NV."""
-    once = (0x01, 0x02, 0x03, 0x10, 0x11, 0x12, 0x13, 0x14, 0x15)
-    lines = [command(READ, item) for item in (*once, 0x20, 0x21, 0x22, 0x23, 0x25, 0x26)]
-    lines += [command(READ_NV, item) for item in once]
-    for code in (READ, READ_NV):
-        lines += [command(code, 0x16, number) for number in INPUTS]
-        lines += [command(code, 0x18, index) for index in SLOTS]
-    return lines
-
-
-def slot_value(index, variant=0):
-    """A slot's value that no other slot and no other variant has."""
-    return bytes([index + 1, 0x40 + index, 0x80 + variant, 0xFF - index, 0xC0 + index])
-
-
-def fill_cells():
-    """Lines after which every cell that a command can store differs from its default and from its
-    other copy."""
-    lines = [command(PROGRAM, 0x10, b"\xa1\xa2\xa3\xa4")]
-    pairs = ((0x91, 0x92), (0x93, 0x94), (0xEC, 0x0A), (0x1F, 0x19), (0x05, 0x03), (0x95, 0x96))
-    for item, (nonvolatile, working) in zip(ONE_BYTE_SETTINGS, pairs):
-        lines += [command(PROGRAM, item, nonvolatile), command(WRITE, item, working)]
-    for number in INPUTS:
-        lines.append(command(PROGRAM, 0x16, number, 0x03 + number, 0x0F, 0x01, 0x12, number))
-        lines.append(command(WRITE, 0x16, number, 0x05 + number, 0x10, 0x00, 0x34, number))
-    return lines + [command(PROGRAM, 0x18, index, slot_value(index)) for index in SLOTS]
-
-
-def guarded(lines):
-    """A log of lines that run on filled cells, and show afterwards what became of them."""
-    return log_of(fill_cells() + list(lines) + dump())
-
 
 # ---- Examples of document 01 -----------------------------------------------------------------
 
@@ -664,8 +439,8 @@ def check_wakes(compare, rng):
     for wake in range(20):
         start = b"\x80" + wake * b"\xff"
         blocks = [start, start + b"\x55", start + b"\x54", start + b"\x55\x80", start + b"\x55\x82"]
-        blocks += [frame(payload, wake) for payload in FRAME_PAYLOADS]
-        blocks += [start + b"\x00" + frame(b"\x01\x15"), start + b"\x55" + frame(b"\x01\x15")]
+        blocks += [frame(wake, payload) for payload in FRAME_PAYLOADS]
+        blocks += [start + byte + frame(0, b"\x01\x15") for byte in (b"\x00", b"\x55")]
         lines += map(text_of, blocks)
     compare.log("wake bytes", guarded(lines))
 
@@ -674,7 +449,7 @@ def check_damaged_frames(compare, rng):
     """Frames that are cut, lengthened, or lack or repeat one byte."""
     lines = []
     for payload, wake in itertools.product(FRAME_PAYLOADS, (0, 1, 2, 15, 16, 17)):
-        whole = frame(payload, wake)
+        whole = frame(wake, payload)
         blocks = [whole[:size] for size in range(len(whole) + 1)]
         blocks += [whole + bytes(size) for size in (1, 2, 100)] + [whole + whole, whole + b"\xff"]
         for place in range(len(whole)):
@@ -688,7 +463,7 @@ def check_frame_bytes(compare, rng):
     """Each byte in the place of the first, of a wake byte and of 55."""
     blocks = []
     for byte, wake in itertools.product(range(256), (0, 1, 15, 16)):
-        whole = frame(b"\x01\x15", wake)
+        whole = frame(wake, b"\x01\x15")
         for place in {0, 1, wake, wake + 1}:
             blocks.append(whole[:place] + bytes([byte]) + whole[place + 1 :])
         blocks.append(whole[: wake + 1] + bytes([byte]))
@@ -714,25 +489,11 @@ def check_long_payloads(compare, rng):
     lines = []
     for size, start in itertools.product(range(1, 128), map(bytes.fromhex, starts)):
         payload = start + bytes(rng.randrange(1, 5) for _ in range(size))
-        lines.append(text_of(frame(payload[:size], size % 17)))
+        lines.append(text_of(frame(size % 17, payload[:size])))
     compare.log("long payloads", guarded(lines))
 
 
 # ---- Lines that are no block -----------------------------------------------------------------
-
-HOSTILE_LINES = (
-    *(b" ", b"  ", b"\t", b"\r", b"\x00", b"0", b"8", b"80 ", b" 80", b"80  55", b"80\t55"),
-    *(b"80 5", b"8 55", b"805", b"8055", b"80 55 8", b"80 55 82 01 15 ", b" 80 55 82 01 15"),
-    *(b"80 55 82 01 15\r", b"80 55 82 01 15\x00", b"80 55 82 01 15\t", b"\x0080 55 82 01 15"),
-    *(b"\xef\xbb\xbf80 55 82 01 15", b"80 ff 55 82 01 15", b"80 55 83 c1 15 00", b"80 Ff 55"),
-    *(b"80 fF 55", b"80 55 8G", b"80 55 G2", b"80 55 8@ 01", b"80 55 8: 01", b"80 55 8/ 01"),
-    *(b"80 55 82 01 1\xb5", b"80 55 82 01 \xb115", b"80,55,82,01,15", b"80 55 82 01 15 #"),
-    *(b"0x80 0x55", b"80-55", b"+8 55", b"-8 55", b"80 55 82 01 15 80 55 82 01 1"),
-    *(b"refused 3", b"not hex", b"\\n", b"80\x0b55", b"80\x0c55", b"80\x8555", b"80\xa055"),
-    *(b"\xff", b"\x80", b"\x80\x55\x82\x01\x15", b"80 55\x0082 01 15", b"80 55 82 01 15\x1a"),
-    *(b"\x1a", b"\x04", b"80 55 82 01 15\r80 55 82 01 15", b"A", b"AB CD EF G0", b"\xc3\xa9"),
-)
-
 
 def check_hostile_lines(compare, rng):
     """Lines of other forms, between commands that they must leave in peace."""
@@ -778,43 +539,10 @@ def check_empty_input(compare, rng):
 
 # ---- Borders of the input and of the output --------------------------------------------------
 
-BORDER = 65536
-
-
-def hex_text(rng, size):
-    """Characters of a line of that size: pairs parted by a space, the last one cut if need be."""
-    return text_of(rng.choice((b"\x80\x55\xff", b"")) + rng.randbytes(size // 3 + 1))[:size]
-
-
-def broken_text(rng, size):
-    """The same with one character wrong: the first, the last or any."""
-    text = bytearray(hex_text(rng, size))
-    text[rng.choice((0, size - 1, rng.randrange(size)))] = rng.choice(b"g x\r\x00\xff")
-    return bytes(text)
-
-
-def padding(rng, size):
-    """Lines of that many bytes altogether: commands, over-long lines, and a line that fits."""
-    lines = b""
-    while size - len(lines) > 5000:
-        lines += rng.choice((b"0", b"G", b" ")) * rng.randrange(601, 3000) + b"\n"
-        lines += log_of(random_line(rng) for _ in range(2))
-    rest = size - len(lines)
-    return lines + (rest - 1) * b"0" + b"\n" if rest else lines
-
-
-def border_log(rng, placed):
-    """A log in which each given line starts at a place told from a border of its own."""
-    log = bytearray()
-    for number, (line, place) in enumerate(placed, 1):
-        log += padding(rng, number * BORDER + place - len(log))
-        log += line + b"\n"
-    return bytes(log)
-
 
 def places(size):
     """Starts of a line of that size for which it begins or ends at the border, or its line feed
-    or its 600th character lies there, one before and one behind."""
+    or its 600th character lies there, one before and one after."""
     edges = (0, -size, -size // 2, -599, -600)
     return sorted({edge + step for edge in edges for step in (-1, 0, 1)})
 
@@ -846,7 +574,7 @@ def check_border_commands(compare, rng):
 
 
 def check_very_long_lines(compare, rng):
-    """Lines longer than one read or several, which end before, at or behind a border. Some have
+    """Lines longer than one read or several, which end before, at or after a border. Some have
     a size that is short without its upper bits."""
     read = b"\n" + command(READ, 0x14)
     for size in (1000, 4096, 65535, 65536, 65550, 66135, 70_000, 131_086, 200_000):
@@ -862,7 +590,7 @@ def check_very_long_lines(compare, rng):
 
 
 def check_output_sizes(compare, rng):
-    """Outputs that end shortly before, at and behind a round size."""
+    """Outputs that end shortly before, at and after a round size."""
     program = command(PROGRAM, 0x18, 0x27, b"\x01\x02\x03\x04\x05") + b"\n"
     programmed = b"80 55 8A C0 00 04 18 27 01 02 03 04 05\n"
     read_nv = command(READ_NV, 0x25) + b"\n"
@@ -879,23 +607,6 @@ def check_output_sizes(compare, rng):
 
 
 # ---- Long sequences --------------------------------------------------------------------------
-
-
-def random_line(rng):
-    """A line of a long sequence: mostly a whole frame, now and then a damaged one or no block."""
-    kind = rng.random()
-    block = frame(likely_payload(rng), rng.choice((0, 0, 0, 1, 2, 16)))
-    if kind < 0.85:
-        return text_of(block)
-    if kind < 0.93:
-        place = rng.randrange(len(block))
-        change = rng.choice((b"", b"\xff", b"\x00", rng.randbytes(1), rng.randbytes(2)))
-        return text_of(block[:place] + change + block[place + rng.randrange(2) :])
-    if kind < 0.96:
-        return text_of(frame(rng.randbytes(rng.randrange(1, 12))))
-    if kind < 0.98:
-        return rng.choice((b"", b" ", text_of(block).lower(), text_of(block) + b" "))
-    return hex_text(rng, rng.randrange(1, 640))
 
 
 def check_random_sequences(compare, rng):
@@ -922,7 +633,7 @@ def check_pieces(compare, rng):
 
 
 def check_failing_reads(compare, rng):
-    """A read that fails ends the program: the lines before it are answered, and what is left behind
+    """A read that fails ends the program: the lines before it are answered, and what is left after
     the last line feed is not taken for a last line."""
     what = "input cannot be read"
     folder = os.open("/", os.O_RDONLY)
@@ -933,7 +644,7 @@ def check_failing_reads(compare, rng):
     for lines, rest in itertools.product((b"", b"\n", whole), rests):
         log = lines + rest
         run = run_on_descriptors(compare.program, broken_input(log), subprocess.PIPE)
-        name = f"an input that breaks off behind {len(log)} bytes"
+        name = f"an input that breaks off after {len(log)} bytes"
         compare.failing(name, log, reference.replay(lines), run, what, errno.EIO)
 
 
@@ -957,42 +668,272 @@ def check_failing_writes(compare, rng):
         compare.compare(f"no line, and {path} as the output", b"", b"", run)
 
 
+# ---- One line at a time ----------------------------------------------------------------------
+
+MANY = 100_050  # lines, each of which is a read and a print of its own
+
+
+def answered(process, line):
+    """Hands a running program one line, and waits for what it prints."""
+    with contextlib.suppress(BrokenPipeError):  # then nothing is printed
+        process.stdin.write(line + b"\n")
+    printed = b""
+    while not printed.endswith(b"\n"):
+        more = process.stdout.read(4096)
+        if not more:
+            break
+        printed += more
+    return printed
+
+
+def check_many_reads(compare, rng):
+    """Lines of which each is written only once the response to the one before was read."""
+    lines = [command(WRITE, 0x11, value) for value in range(256)]
+    wanted = reference.replay(log_of(lines)).splitlines(keepends=True)
+    with started(compare.program) as process:
+        for number in range(MANY):
+            printed = answered(process, lines[number % 256])
+            if printed != wanted[number % 256]:
+                raise Problem(f"line {number + 1} of {MANY}, one at a time: {printed!r}")
+        process.stdin.close()
+        run = Run(process.stdout.read(), process.stderr.read(), process.wait())
+    compare.compare("the end of many reads", b"", b"", run)
+    compare.lines += MANY
+
+
+# ---- The script ./replay ---------------------------------------------------------------------
+
+
+def run_script(redirections, log):
+    """Runs ./replay from a shell, with the log as its input and these redirections."""
+    with tempfile.TemporaryFile() as given:
+        given.write(log)
+        given.seek(0)
+        words = ["sh", "-c", f'exec "$0" {redirections}', WRAPPER]
+        done = subprocess.run(words, stdin=given, capture_output=True, timeout=PATIENCE)
+    return Run(done.stdout, done.stderr, done.returncode)
+
+
+def check_script_status(compare, rng):
+    """0 if the log was answered; 1 if there was a message, also where nobody can read it."""
+    unread = f"replay: standard input cannot be read: {os.strerror(errno.EISDIR)}\n"
+    closed = f"replay: standard output cannot be written: {os.strerror(errno.EBADF)}\n"
+    full = f"replay: standard output cannot be written: {os.strerror(errno.ENOSPC)}\n"
+    log = log_of([random_line(rng) for _ in range(200)])
+    compare.compare("./replay", log, reference.replay(log), run_script("", log))
+    for redirections, given, message, status in (
+        ("</", log, unread, 1),
+        ("</ 2>&-", log, "", 1),
+        ("<&-", log, "replay: standard input is closed\n", 1),
+        (">&-", log, closed, 1),
+        (">&- 2>&-", log, "", 1),
+        (">/dev/full", log, full, 1),
+        (">&-", b"", "", 0),
+        ("2>&-", b"", "", 0),
+    ):
+        name = f"./replay {redirections} on {len(given)} bytes"
+        run = run_script(redirections, given)
+        compare.compare(name, b"", b"", run, message.encode("ascii"), status)
+
+
+def check_script_arguments(compare, rng):
+    """Help is printed on demand. An argument is refused, since the log is standard input."""
+    with tempfile.NamedTemporaryFile() as file:
+        for words, status in (
+            (("-h",), 0),
+            (("--help",), 0),
+            ((file.name,), 2),
+            (("-",), 2),
+            (("--version",), 2),
+            (("",), 2),
+            (("--help", "--help"), 2),
+        ):
+            done = subprocess.run([WRAPPER, *words], stdin=subprocess.DEVNULL, capture_output=True)
+            said, silent = done.stdout, done.stderr
+            if status != 0:
+                said, silent = silent, said
+            if done.returncode != status or not said.startswith(b"usage: ") or silent:
+                raise Problem(f"./replay {words}: {done}")
+
+
+def check_script_links(compare, rng):
+    """The script is found through symbolic links, and from any folder."""
+    log = log_of(fill_cells())
+    with tempfile.TemporaryDirectory() as folder:
+        os.makedirs(f"{folder}/a/b")
+        os.symlink(WRAPPER, f"{folder}/a/absolute")
+        os.symlink("../absolute", f"{folder}/a/b/relative")
+        os.symlink(f"{folder}/a/b", f"{folder}/linked")
+        os.symlink(ROOT, f"{folder}/repository")
+        for path in ("a/absolute", "a/b/relative", "linked/relative", "repository/replay"):
+            run = run_on_file(f"{folder}/{path}", log)
+            compare.compare(f"./replay as {path}", log, reference.replay(log), run)
+        write_program(f"{folder}/other/target/bin/replay", "echo other")
+        stand_in(f"{folder}/other")
+        os.symlink("../../other/replay", f"{folder}/a/b/other")
+        if run_on_file(f"{folder}/linked/other", b"") != Run(b"other\n", b"", 0):
+            raise Problem("./replay is not found by a relative link in a linked folder")
+        words = ["sh", "-c", 'cd "$0" && PATH=.:$PATH && absolute', f"{folder}/a"]
+        done = subprocess.run(words, input=log, capture_output=True, timeout=PATIENCE)
+        run = Run(done.stdout, done.stderr, done.returncode)
+        compare.compare("./replay by the PATH", log, reference.replay(log), run)
+
+
+def check_script_terminal(compare, rng):
+    """At a terminal the script says what it waits for, which is no failure."""
+    user, terminal = os.openpty()
+    with started(WRAPPER, terminal) as process:
+        os.close(terminal)
+        said = process.stderr.read(4096)
+        os.write(user, command(READ, 0x15) + b"\n")
+        printed = process.stdout.read(4096)
+        os.write(user, b"\x04")  # Ctrl-D
+        run = Run(printed + process.stdout.read(), process.stderr.read(), process.wait())
+    os.close(user)
+    if not said.startswith(b"replay: waiting for command blocks") or said.count(b"\n") != 1:
+        raise Problem(f"at a terminal ./replay says {said!r}")
+    log = command(READ, 0x15)
+    compare.compare("./replay at a terminal", log, reference.replay(log), run)
+
+
+def check_script_signals(compare, rng):
+    """Ctrl-C, which goes to all processes, and signals to the script alone end script and program. So
+    does a reader that closes the output."""
+    for send, number in (
+        (os.killpg, signal.SIGINT),
+        (os.kill, signal.SIGINT),
+        (os.kill, signal.SIGTERM),
+        (os.kill, signal.SIGHUP),
+    ):
+        with started(WRAPPER) as process:
+            answered(process, command(READ, 0x15))
+            send(process.pid, number)
+            left = process.stdout.read()  # comes to an end once the program has ended
+            if left or process.wait() != -number:
+                raise Problem(f"./replay after signal {number}: {left!r}, {process.returncode}")
+    with started(WRAPPER) as process:
+        answered(process, command(READ, 0x15))
+        process.stdout.close()
+        process.stdin.write(command(READ, 0x15) + b"\n")
+        if process.stderr.read() or process.wait() != 128 + signal.SIGPIPE:
+            raise Problem(f"./replay after its reader has gone: {process.returncode}")
+
+
+# ---- The script around another program -------------------------------------------------------
+
+
+def write_program(path, text):
+    """A shell script that can be run."""
+    os.makedirs(os.path.dirname(path), exist_ok=True)
+    with open(path, "w", encoding="ascii") as file:
+        file.write(f"#!/bin/sh\n{text}\n")
+    os.chmod(path, 0o755)
+
+
+def stand_in(folder):
+    """A copy of the script, with one old source; the program is to be written."""
+    os.makedirs(f"{folder}/crates")
+    shutil.copy(WRAPPER, folder)
+    for path in (f"{folder}/crates.txt", f"{folder}/crates/source"):
+        with open(path, "w", encoding="ascii"):
+            pass
+        os.utime(path, (1, 1))
+    os.utime(f"{folder}/crates", (1, 1))
+    return f"{folder}/replay"
+
+
+def check_script_messages(compare, rng):
+    """A message reaches standard error while the program still runs, also one without a line feed. A
+    program that is killed is no success."""
+    with tempfile.TemporaryDirectory() as folder:
+        script, program = stand_in(folder), f"{folder}/target/bin/replay"
+        write_program(program, "echo 'replay: one' >&2\nread line\nprintf 'replay: \\\\ two' >&2")
+        with started(script) as process:
+            first = process.stderr.read(4096)
+            process.stdin.close()
+            came = first, process.stderr.read(), process.wait()
+        if came != (b"replay: one\n", b"replay: \\ two\n", 1):
+            raise Problem(f"./replay passes messages on as {came}")
+        write_program(program, "kill -KILL $$")
+        status = run_on_file(script, b"").status
+        if status != 128 + signal.SIGKILL:
+            raise Problem(f"./replay ends with {status} where its program is killed")
+
+
+def check_script_builds(compare, rng):
+    """The program is built where there is none or a source is newer; the log is named by its path."""
+    with tempfile.TemporaryDirectory() as folder:
+        script, log = stand_in(folder), f"{folder}/target/replay.log"
+        build = "mkdir -p target/bin && printf '#!/bin/sh\\ncat\\n' >target/bin/replay"
+        write_program(f"{folder}/bin/rt", f"[ \"$*\" = 'check replay' ] && {build} && chmod +x target/bin/replay")
+        building = f"replay: proving and building the program, about two minutes; the log is {log}\n"
+        failed = f"replay: the program could not be proved and built; see {log}\n"
+        missing = "replay: 'rt' is not on the PATH; building needs the Rattle toolchain\n"
+        path = {"PATH": f"{folder}/bin:{os.environ['PATH']}"}
+
+        def expect(name, text, said, status, environment=path):
+            words = [shutil.which("sh"), script]
+            done = subprocess.run(words, input=b"text", capture_output=True, env=environment, timeout=PATIENCE)
+            came = done.stdout, done.stderr.decode("ascii"), done.returncode
+            if came != (text, said, status):
+                raise Problem(f"./replay, {name}: {came}, expected {(text, said, status)}")
+
+        expect("first use", b"text", building, 0)
+        expect("second use", b"text", "", 0)
+        os.utime(f"{folder}/crates/source", (2**32, 2**32))
+        expect("a newer source", b"text", building, 0)
+        write_program(f"{folder}/bin/rt", "exit 1")
+        expect("a build that fails", b"", building + failed, 1)
+        os.remove(f"{folder}/bin/rt")
+        for tool in ("dirname", "find"):
+            os.symlink(shutil.which(tool), f"{folder}/bin/{tool}")
+        expect("no toolchain", b"", missing, 1, {"PATH": f"{folder}/bin"})
+
+
 # ---- The run ---------------------------------------------------------------------------------
 
 CHECKS = (
-    ("examples", check_examples),
-    ("closed runs", check_closed_runs),
-    ("commands", check_commands),
-    ("items", check_items),
-    ("broken rules", check_broken_rules),
-    ("indexes", check_indexes),
-    ("single stores", check_neighbours),
-    ("values of one-byte items", check_one_byte_values),
-    ("values of analog inputs", check_analog_input_values),
-    ("values of slots", check_slot_values),
-    ("addresses", check_addresses),
-    ("status", check_status),
-    ("wake bytes", check_wakes),
-    ("damaged frames", check_damaged_frames),
-    ("bytes of a frame's start", check_frame_bytes),
-    ("length bytes", check_length_bytes),
-    ("long payloads", check_long_payloads),
-    ("hostile lines", check_hostile_lines),
-    ("changed lines", check_changed_lines),
-    ("short lines", check_letters),
-    ("blank lines", check_empty_input),
-    ("lines at borders", check_border_lines),
-    ("commands at borders", check_border_commands),
-    ("very long lines", check_very_long_lines),
-    ("sizes of the output", check_output_sizes),
-    ("random sequences", check_random_sequences),
-    ("pieces", check_pieces),
-    ("reads that fail", check_failing_reads),
-    ("writes that fail", check_failing_writes),
+    check_examples,
+    check_closed_runs,
+    check_commands,
+    check_items,
+    check_broken_rules,
+    check_indexes,
+    check_neighbours,
+    check_one_byte_values,
+    check_analog_input_values,
+    check_slot_values,
+    check_addresses,
+    check_status,
+    check_wakes,
+    check_damaged_frames,
+    check_frame_bytes,
+    check_length_bytes,
+    check_long_payloads,
+    check_hostile_lines,
+    check_changed_lines,
+    check_letters,
+    check_empty_input,
+    check_border_lines,
+    check_border_commands,
+    check_very_long_lines,
+    check_output_sizes,
+    check_random_sequences,
+    check_pieces,
+    check_failing_reads,
+    check_failing_writes,
+    check_many_reads,
+    check_script_status,
+    check_script_arguments,
+    check_script_links,
+    check_script_terminal,
+    check_script_signals,
+    check_script_messages,
+    check_script_builds,
 )
 
 LEAST_SEEN = 100  # of each refusal
-REFUSALS = range(3, 13)  # those that a block can get from a valid state and a whole buffer
+REFUSALS = sorted(OWN["replay"])
 
 
 def check_coverage(compare):
@@ -1005,23 +946,21 @@ def check_coverage(compare):
         raise Problem(f"commands and items never accepted: {never}")
 
 
-def compare_all(program):
-    """Runs every check; the comparison with its counts."""
-    compare = Comparison(program)
-    for name, check in CHECKS:
+def run_checks(compare, checks):
+    for check in checks:
         before = compare.lines
         try:
             check(compare, random.Random(SEED))
         except subprocess.TimeoutExpired:
-            raise Problem(f"the program doesn't come to an end in {name}") from None
-        print(f"{name}: {compare.lines - before} lines")
-    check_coverage(compare)
-    return compare
+            raise Problem(f"the program doesn't come to an end in {check.__name__}") from None
+        print(f"{check.__name__}: {compare.lines - before} lines")
 
 
-def main():
-    program = pathlib.Path(sys.argv[1]).resolve() if len(sys.argv) > 1 else REPLAY
-    compare = compare_all(runnable(program))
+def main(checks, whole):
+    compare = Comparison(runnable(REPLAY))
+    run_checks(compare, checks)
+    if whole:
+        check_coverage(compare)
     refused = ", ".join(f"{number}: {compare.refused[number]}" for number in REFUSALS)
     print(
         f"{compare.lines} lines of {compare.bytes} bytes agreed: "
@@ -1031,4 +970,4 @@ def main():
 
 
 if __name__ == "__main__":
-    run_test("replay", main)
+    run_test(CHECKS, main)

@@ -1,6 +1,6 @@
 #!/usr/bin/env python3
 """The C SDK as its users meet it: ./sdk builds it, the header's numbers are document 01's, its structs are laid out as the structs by
-which test_entries.py calls the library, its functions are those that were agreed with the controllers and all that the library
+which the tests call the library, its functions are those that were agreed with the controllers and all that the library
 exports, and the example controller builds without a warning and prints what document 01 has it print."""
 
 import ctypes
@@ -14,7 +14,8 @@ sys.dont_write_bytecode = True  # leaves no files beside the tests
 import library
 import reference
 import states
-from test_entries import OUTCOME, READOUT_RESULT, SIGNATURES
+from entries import OUTCOME, READOUT_RESULT, SIGNATURES
+from refusals import REFUSALS
 
 SDK = library.ROOT / "target" / "sdk"
 HEADER = SDK / "include" / "cdi.h"
@@ -114,42 +115,60 @@ def output(*words, **options):
     return done.stdout
 
 
-def check_numbers(header):
-    """Each constant of the header but the refusals, which test_refusals.py holds against the papers."""
-    came = {name: int(number, 0) for name, number in re.findall(r"^    (CDI_\w+) = (\w+),?(?: |$)", header, re.M)}
+def built_header():
+    """The header of the SDK, which is built where it is not up to date."""
+    library.sdk()
+    return HEADER.read_text(encoding="utf-8")
+
+
+def check_build():
+    """Built once, the SDK is up to date, and its header is the repository's."""
+    header = built_header()
+    expect("./sdk once more", "target/sdk is up to date\n", output("./sdk"))
+    expect("the header", (library.ROOT / "include" / "cdi.h").read_text(encoding="utf-8"), header)
+    return "the SDK is up to date"
+
+
+def check_numbers():
+    """Each constant of the header but the refusals, which test_refusals.py holds against their table."""
+    found = re.findall(r"^    (CDI_\w+) = (\w+),?(?: |$)", built_header(), re.M)
+    came = {name: int(number, 0) for name, number in found}
     wanted = dict(LIMITS)
     for prefix, names in (("COMMAND", COMMANDS), ("RESPONSE", RESPONSES), ("ITEM", ITEMS)):
         wanted.update({f"CDI_{prefix}_{name}": number for name, number in names.items()})
     refusals = {name for name in came if name.startswith("CDI_REFUSAL_")}
-    expect("the number of refusals", 20, len(refusals))
+    expect("the number of refusals", len(REFUSALS) + 1, len(refusals))
     expect("the header's numbers", wanted, {name: came[name] for name in came if name not in refusals})
-    return len(came)
+    return f"{len(came)} numbers"
 
 
-def check_items(header):
+def check_items():
     """The commands that the header says an item permits are those of the item list."""
-    told = re.findall(r"CDI_ITEM_\w+ = (0x..),? +/\* ([RNWP-]{4})  ", header)
+    said = re.findall(r"CDI_ITEM_\w+ = (0x..),? +/\* ([RNWP-]{4})  ", built_header())
     wanted = {code: item.commands for code, item in reference.ITEMS.items()}
-    expect("the items' commands", wanted, {int(code, 16): marks.replace("-", "") for code, marks in told})
+    expect("the items' commands", wanted, {int(code, 16): marks.replace("-", "") for code, marks in said})
+    return f"{len(said)} items"
 
 
-def check_functions(header):
+def check_functions():
     """The header declares the functions that were agreed, and the library exports them and no other."""
-    declared = [re.sub(r"\s+", " ", text) for text in re.findall(r"^[a-z]\w+ cdi_\w+\([^;]*;", header, re.M)]
+    declared = [re.sub(r"\s+", " ", text) for text in re.findall(r"^[a-z]\w+ cdi_\w+\([^;]*;", built_header(), re.M)]
     expect("the functions", sorted(FUNCTIONS.strip().splitlines()), sorted(declared))
     lines = output("nm", "-D", "--defined-only", SHARED).splitlines()
     exported = {line.split()[-1] for line in lines}
     expect("what is exported", set(SIGNATURES), {name for name in exported if not name.startswith("_")})
-    return len(declared)
+    return f"{len(declared)} functions"
 
 
 def check_keeps_nothing():
     """The library holds a state for the length of a call and no longer: it has no memory of its own that can be written, and calls
     nothing that could have."""
+    library.sdk()
     sizes = [row.split() for row in output("size", ARCHIVE).splitlines()[1:]]
     expect("the bytes of writable memory in its objects", {("0", "0")}, {(data, bss) for _, data, bss, *_ in sizes})
     called = {line.split()[-1] for line in output("nm", "--undefined-only", ARCHIVE).splitlines() if " U " in line}
     expect("the functions that it calls", {"memcpy", "memset"}, called)
+    return "no memory of its own"
 
 
 def layout_claims():
@@ -163,17 +182,18 @@ def layout_claims():
     return claims
 
 
-def check_layout(folder, header):
+def check_layout():
     """The header's structs have these fields in this order, and no others."""
-    claims = layout_claims()
-    source = f"{folder}/layout.c"
-    with open(source, "w", encoding="utf-8") as file:
-        file.write("#include <cdi.h>\n" + "".join(f'_Static_assert({claim}, "{claim}");\n' for claim in claims))
-    output("gcc", *STRICT, f"-I{HEADER.parent}", "-fsyntax-only", source)
+    header, claims = built_header(), layout_claims()
+    with tempfile.TemporaryDirectory() as folder:
+        source = f"{folder}/layout.c"
+        with open(source, "w", encoding="utf-8") as file:
+            file.write("#include <cdi.h>\n" + "".join(f'_Static_assert({claim}, "{claim}");\n' for claim in claims))
+        output("gcc", *STRICT, f"-I{HEADER.parent}", "-fsyntax-only", source)
     asserted = {re.sub(r"^CDI_HOLDS\(|\);$", "", line) for line in header.splitlines() if line.startswith("CDI_HOLDS(")}
     wanted = {claim for claim in claims if "->" not in claim} | {"sizeof(size_t) == 8"}
     expect("the header's assertions", wanted, asserted)
-    return len(claims)
+    return f"{len(claims)} facts of layout"
 
 
 def package_flags():
@@ -187,45 +207,44 @@ def package_flags():
     for name, sign, value in lines:
         if sign == "=":
             values[name] = filled(value)
-    told = {name: value for name, sign, value in lines if sign != "="}
-    return [filled(word) for name in ("Cflags", "Libs") for word in told[name].split()]
+    said = {name: value for name, sign, value in lines if sign != "="}
+    return [filled(word) for name in ("Cflags", "Libs") for word in said[name].split()]
 
 
-def check_controller(folder):
+def check_controller():
     """The example, linked with the archive and, by cdi.pc's flags, with the shared library."""
+    library.sdk()
     example = library.ROOT / "examples" / "controller.c"
-    static, shared = f"{folder}/static", f"{folder}/shared"
-    output("gcc", *STRICT, f"-I{HEADER.parent}", example, ARCHIVE, "-o", static)
-    output("gcc", *STRICT, example, *package_flags(), "-o", shared)
-    expect("the controller's lines", PRINTED, output(static))
-    expect("the controller's lines", PRINTED, output(shared, env={"LD_LIBRARY_PATH": str(SHARED.parent)}))
+    with tempfile.TemporaryDirectory() as folder:
+        static, shared = f"{folder}/static", f"{folder}/shared"
+        output("gcc", *STRICT, f"-I{HEADER.parent}", example, ARCHIVE, "-o", static)
+        output("gcc", *STRICT, example, *package_flags(), "-o", shared)
+        expect("the controller's lines", PRINTED, output(static))
+        expect("the controller's lines", PRINTED, output(shared, env={"LD_LIBRARY_PATH": str(SHARED.parent)}))
+    return "the controller's {} lines".format(PRINTED.count("\n"))
 
 
 def check_readme():
-    """The README's commands for C, as they stand there, print the same."""
+    """The README's commands for C print the same."""
+    library.sdk()
     readme = (library.ROOT / "README.md").read_text(encoding="utf-8")
     shown = readme.partition("## Using it from C")[2].partition("`include/cdi.h`")[0]
     commands = [line.strip() for line in shown.splitlines() if line.startswith("    ")]
     expect("the README's commands", ["./sdk", "gcc", "target/controller"], [line.split()[0] for line in commands])
     expect("what they print", "target/sdk is up to date\n" + PRINTED, output("sh", "-ec", "\n".join(commands)))
+    return f"the README's {len(commands)} commands"
 
 
-def main():
-    library.sdk()
-    expect("./sdk once more", "target/sdk is up to date\n", output("./sdk"))
-    header = HEADER.read_text(encoding="utf-8")
-    expect("the header", (library.ROOT / "include" / "cdi.h").read_text(encoding="utf-8"), header)
-    numbers = check_numbers(header)
-    check_items(header)
-    functions = check_functions(header)
-    check_keeps_nothing()
-    with tempfile.TemporaryDirectory() as folder:
-        claims = check_layout(folder, header)
-        check_controller(folder)
-    check_readme()
-    lines = PRINTED.count("\n")
-    print(f"{functions} functions, {numbers} numbers and {claims} facts of layout of cdi.h, and the controller's {lines} lines")
-
+CHECKS = (
+    check_build,
+    check_numbers,
+    check_items,
+    check_functions,
+    check_keeps_nothing,
+    check_layout,
+    check_controller,
+    check_readme,
+)
 
 if __name__ == "__main__":
-    library.run_test("sdk", main)
+    library.run_test(CHECKS)
