@@ -22,7 +22,8 @@ import functools
 import glob
 import os
 import re
-import sys
+
+from library import Problem
 
 ROOT = os.path.dirname(os.path.dirname(os.path.abspath(__file__)))
 DECISIONS = "docs/DECISIONS.md"
@@ -60,24 +61,6 @@ ANYTHING = re.compile(r"NAME|CRATE|(?<![^/])[A-Z](?![^/])")
 
 
 # ---- Running ----------------------------------------------------------------------------------
-
-
-class Problem(Exception):
-    """What a document says does not hold."""
-
-
-def run_test(checks):
-    """Runs all checks, or the one that the command line names; each returns in words what it has seen."""
-    program, *names = sys.argv
-    by_name = {check.__name__: check for check in checks}
-    if len(names) > 1 or not by_name.keys() >= set(names):
-        known = "".join(f"  {name}\n" for name in by_name)
-        sys.stderr.write(f"usage: python3 {program} [NAME]\nNAME is one of the checks:\n{known}")
-        sys.exit(2)
-    try:
-        print("; ".join([by_name[name]() for name in names or by_name]))
-    except Problem as problem:
-        sys.exit(str(problem))
 
 
 def expect(what, wanted, came):

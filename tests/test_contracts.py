@@ -1,15 +1,15 @@
 #!/usr/bin/env python3
 """The rules of public contracts and of the edits that have to be refused. `python3 tests/test_contracts.py NAME` runs one check:
 
-functions   A function that another crate can call has an `ensures` and no `requires`: it refuses bad input itself. A precondition belongs to
-            a private or a `pub(crate)` function. There is no `pub use`, which would hand out functions that are not seen here.
-conjuncts   Every fact that a public contract states says something: it is an equation between what the function gives and what it was given,
-            or one definition, and it cites a definition of this repository. Only the result may be equal to a parameter as it is. Together the facts
-            speak of the whole result, of all that is left in the caller's buffers, and of every parameter. A definition has its own name in a public
-            contract. Every definition that a source brings in is in one of its contracts.
-document    docs/CONTRACTS.md is the text that tests/contracts.py makes.
-edits       Every edit says the error and the fact that is refused, can be made, and is aimed at code or at a definition. For every public function
-            there is an edit of its crate that is aimed at it, or at a function, a constant or a definition that it rests on.
+check_functions   A function that another crate can call has an `ensures` and no `requires`: it refuses bad input itself. A precondition belongs to
+                  a private or a `pub(crate)` function. There is no `pub use`, which would hand out functions that are not seen here.
+check_conjuncts   Every fact that a public contract states says something: it is an equation between what the function gives and what it was given,
+                  or one definition, and it cites a definition of this repository. Only the result may be equal to a parameter as it is. Together the facts
+                  speak of the whole result, of all that is left in the caller's buffers, and of every parameter. A definition has its own name in a public
+                  contract. Every definition that a source brings in is in one of its contracts.
+check_document    docs/CONTRACTS.md is the text that tests/contracts.py makes.
+check_edits       Every edit says the error and the fact that is refused, can be made, and is aimed at code or at a definition. For every public function
+                  there is an edit of its crate that is aimed at it, or at a function, a constant or a definition that it rests on.
 """
 import os
 import re
@@ -44,6 +44,7 @@ from contracts import (
     without_comments,
     words_of,
 )
+from library import Problem, run_test
 
 
 def expect(came, wanted):
@@ -432,22 +433,19 @@ def check_edits():
 
 # ---- All of them -----------------------------------------------------------------------------
 
-CHECKS = {"functions": check_functions, "conjuncts": check_conjuncts, "document": check_document, "edits": check_edits}
+CHECKS = (check_functions, check_conjuncts, check_document, check_edits)
 
 
-def main():
-    chosen = sys.argv[1:] or list(CHECKS)
-    if not set(chosen) <= set(CHECKS):
-        sys.exit(f"usage: {os.path.basename(__file__)} [{' | '.join(CHECKS)}]")
-    faults = [fault for name in chosen for fault in CHECKS[name]()]
+def main(checks, whole):
+    faults = [fault for check in checks for fault in check()]
     functions = [function for crate in crates() for function in functions_of(crate)]
     facts = sum(len(stated(function.item.head)[1]) for function in functions)
     edits = [edit for crate in crates() for edit in edits_of(crate)]
     more = sum(edit.tried == MORE for edit in edits)
-    counts = f"{len(functions)} public functions with {facts} facts, {len(edits) - more} edits of the gate and {more} more"
-    print("\n".join([*faults, f"{counts}; {len(faults)} faults"]))
-    sys.exit(0 if functions and edits and not faults else 1)
+    if faults or not functions or not edits:
+        raise Problem("\n".join(faults) or "there is no public function or no edit")
+    print(f"{len(functions)} public functions with {facts} facts, {len(edits) - more} edits of the gate and {more} more")
 
 
 if __name__ == "__main__":
-    main()
+    run_test(CHECKS, main)

@@ -16,7 +16,6 @@ from documents import (
     NO_SOURCES,
     ROOT,
     TOKEN,
-    Problem,
     crates,
     decision_ids,
     documents,
@@ -30,9 +29,9 @@ from documents import (
     passages,
     read,
     rows_of,
-    run_test,
     sources,
 )
+from library import Problem, run_test
 
 LINK = re.compile(r"\[[^\]]*\]\(([^)\s]+)\)")
 ELSEWHERE = re.compile(r"\w+:|#")  # another site, or a place in the same document

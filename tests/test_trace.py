@@ -14,7 +14,6 @@ from documents import (
     LETTER_OR_HYPHEN,
     ROOT,
     TRACE,
-    Problem,
     decision_ids,
     expect,
     files,
@@ -23,9 +22,9 @@ from documents import (
     paragraphs,
     read,
     rows_of,
-    run_test,
     searched,
 )
+from library import Problem, run_test
 
 QUOTE_MAX = 5  # words
 REASON_MIN = 3  # words
