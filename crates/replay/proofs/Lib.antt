@@ -1,3 +1,4 @@
 pub mod Kept
 pub mod Left
+pub mod Turns
 pub mod Runs

@@ -19,7 +19,8 @@ use Rattle.replay_text.proofs.Laws.{pieces, pieces-then, unfinished-kept, last-
 use Rattle.replay_text.proofs.Theorem.{replay-theorem}
 use Rattle.replay.specs.Program.{bufferSize, isEnd, charsAfter, answers, leftBehind, Stays, ReadsOn}
 use Rattle.replay.proofs.Left.{not-finished, at-last}
-use Rattle.replay.specs.Run.{charsRead, Run, last, next, RunTheorem}
+use Rattle.cdi_state.specs.State.{factoryState}
+use Rattle.replay.specs.Run.{Turns, start, then, charsRead, inputOf, textOf, stop, RunTheorem}
 
 -- where the input has ended, what is there are whole lines
 abbrev Finished : Bool → List ℕ → Type 0
@@ -58,57 +59,67 @@ module _ (s after : ModuleState) (chars : List ℕ) (state-after : after ≡ lin
     last-line-text : linesText s (answers s chars) ++ replayedFrom after (lastLine (keptOf (leftBehind s chars)) ++ []) ≡ replayedFrom s (chars ++ [])
     last-line-text = simp append-nil (rw (last-line after (keptOf (leftBehind s chars)) kept-part .0) (simp append-nil at (kept-text [])))
 
--- ---- the turns one after the other
--- where the input has ended no more is read
-stays-ended : (s : ModuleState) (chars rest input : List ℕ) (ended endedAfter : Bool) (count : ℕ)
-    (left : Stays s chars ended rest endedAfter false true false ⊎ ReadsOn s chars ended rest endedAfter false true count false) → ended ≡ true → (endedAfter ≡ true → input ≡ [])
-    → charsRead left ++ input ≡ []
-stays-ended s chars rest input ended endedAfter count (inl stays) e none = none (stays .same-end ∙ e)
-stays-ended s chars rest input ended endedAfter count (inr reads) e none = absurd (false≢true (sym (reads .not-ended) ∙ e))
-
-none-read : {s : ModuleState} {chars input text : List ℕ} {ended : Bool} → Run s chars ended input text → ended ≡ true → input ≡ []
-none-read (last t) e = refl
-none-read (next t run) e = stays-ended _ _ _ _ _ _ _ (t .left) e (λ ended. none-read run ended)
-
 -- at the end of the input a read gives nothing
 none-given : (given : List ℕ) (count : ℕ) → length given ≡ count → isEnd count false ≡ true → given ≡ []
 none-given [] count e at = refl
 none-given (c ∷ given) count e at = absurd (false≢true (rw (lt-ltb 0 count (omega (arith, e))) at at))
 
--- a turn prints the text before that of the turns behind it
-next-text : (s after : ModuleState) (chars rest input text : List ℕ) (ended endedAfter : Bool) (count : ℕ)
-    (left : Stays s chars ended rest endedAfter false true false ⊎ ReadsOn s chars ended rest endedAfter false true count false)
-    → after ≡ linesState s (answers s chars) → Finished ended chars
-    → (Finished endedAfter rest → text ≡ replayedFrom after (rest ++ input)) → (endedAfter ≡ true → input ≡ [])
-    → linesText s (answers s chars) ++ text ≡ replayedFrom s (chars ++ (charsRead left ++ input))
-next-text s after chars rest input text ended endedAfter count (inl stays) state-after finished then none =
-    let kept : Finished endedAfter rest = λ e. ap unfinished (stays .same) ∙ unfinished-kept s chars bufferSize ∙ finished (sym (stays .same-end) ∙ e) in
-    ap (λ (t : List ℕ). linesText s (answers s chars) ++ t) (then kept ∙ ap (λ (l : List ℕ). replayedFrom after (l ++ input)) (stays .same))
-    ∙ left-text s after chars state-after input
-next-text s after chars rest input text ended endedAfter count (inr reads) state-after finished then none =
-    let kept = keptOf (leftBehind s chars) in
-    let given = reads .refilled .given in
-    let behind = not-finished s chars (reads .not-full) in
-    let taken : rest ≡ charsAfter kept given endedAfter = reads .refilled .taken ∙ ap (charsAfter kept given) (sym (reads .end-told)) in
-    by-cases endedAfter
-    (λ t.
-    let nothing : given ≡ [] = none-given given count (reads .refilled .as-told) (sym (reads .end-told) ∙ t) in
-    let line : rest ≡ lastLine kept = taken ∙ rw t in
-    let whole : Finished endedAfter rest = λ e. ap unfinished line ∙ last-line-finished kept (kept-part s after chars state-after behind) in
-    let all : text ≡ replayedFrom after (lastLine kept ++ []) = then whole ∙ rw (line, none t) in
-    rw (nothing, all, none t) (last-line-text s after chars state-after behind))
-    (λ f.
-    let split : rest ≡ kept ++ given = taken ∙ rw f in
-    let unended : Finished endedAfter rest = λ e. absurd (false≢true (sym f ∙ e)) in
-    let all : text ≡ replayedFrom after (kept ++ (given ++ input)) =
-    then unended ∙ ap (λ (l : List ℕ). replayedFrom after (l ++ input)) split ∙ ap (replayedFrom after) (append-assoc kept given input) in
-    rw all (kept-text s after chars state-after behind (given ++ input)))
+module _ (s : ModuleState) (chars rest : List ℕ) (ended endedAfter : Bool) (count : ℕ) where
+  abbrev Left : Type 0
+  Left = Stays s chars ended rest endedAfter false true false ⊎ ReadsOn s chars ended rest endedAfter false true count false
 
-run-text : {s : ModuleState} {chars input text : List ℕ} {ended : Bool} → Run s chars ended input text → Finished ended chars
-    → text ≡ replayedFrom s (chars ++ input)
-run-text (last t) finished = last-text _ _ _ _ _ _ (t .left) finished
-run-text (next t run) finished = next-text _ _ _ _ _ _ _ _ _ (t .left) (t .state-after) finished (λ whole. run-text run whole) (λ ended. none-read run ended)
+  -- where the input has ended no more is read
+  none-read : (left : Left) (later : List ℕ) → (endedAfter ≡ true → later ≡ []) → ended ≡ true → charsRead left ++ later ≡ []
+  none-read (inl stays) later none e = none (stays .same-end ∙ e)
+  none-read (inr reads) later none e = absurd (false≢true (sym (reads .not-ended) ∙ e))
+
+  module _ (after : ModuleState) (state-after : after ≡ linesState s (answers s chars)) where
+    -- the characters that are there after a turn that is not the last, once the input has ended, are whole lines too
+    next-finished : Left → Finished ended chars → Finished endedAfter rest
+    next-finished (inl stays) finished e =
+        ap unfinished (stays .same) ∙ unfinished-kept s chars bufferSize ∙ finished (sym (stays .same-end) ∙ e)
+    next-finished (inr reads) finished e =
+        let kept = keptOf (leftBehind s chars) in
+        let part = kept-part s after chars state-after (not-finished s chars (reads .not-full)) in
+        let line : rest ≡ lastLine kept = reads .refilled .taken ∙ ap (charsAfter kept (reads .refilled .given)) (sym (reads .end-told) ∙ e) in
+        ap unfinished line ∙ last-line-finished kept part
+
+    -- what it prints and what is there after it continue to the text, with what it read and whatever is read later
+    next-text : (left : Left) (later : List ℕ) → (endedAfter ≡ true → later ≡ [])
+        → linesText s (answers s chars) ++ replayedFrom after (rest ++ later) ≡ replayedFrom s (chars ++ (charsRead left ++ later))
+    next-text (inl stays) later none = rw (stays .same) (left-text s after chars state-after later)
+    next-text (inr reads) later none =
+        let kept = keptOf (leftBehind s chars) in
+        let given = reads .refilled .given in
+        let behind = not-finished s chars (reads .not-full) in
+        let taken : rest ≡ charsAfter kept given endedAfter = reads .refilled .taken ∙ ap (charsAfter kept given) (sym (reads .end-told)) in
+        by-cases endedAfter
+        (λ t.
+        let nothing : given ≡ [] = none-given given count (reads .refilled .as-told) (sym (reads .end-told) ∙ t) in
+        let line : rest ≡ lastLine kept = taken ∙ rw t in
+        rw (nothing, line, none t) (last-line-text s after chars state-after behind))
+        (λ f.
+        let split : rest ≡ kept ++ given = taken ∙ rw f in
+        rw (split, append-assoc kept given later) (kept-text s after chars state-after behind (given ++ later)))
+
+-- ---- the turns one after the other
+turns-finished : {n : ℕ} {s : ModuleState} {chars : List ℕ} {ended : Bool} → Turns n s chars ended → Finished ended chars
+unfolding unfinished
+turns-finished start = λ e. refl
+turns-finished (then turns turn) = next-finished _ _ _ _ _ _ _ (turn .state-after) (turn .left) (turns-finished turns)
+
+turns-text : {n : ℕ} {s : ModuleState} {chars : List ℕ} {ended : Bool} (turns : Turns n s chars ended) (later : List ℕ) → (ended ≡ true → later ≡ [])
+    → textOf turns ++ replayedFrom s (chars ++ later) ≡ replayedFrom factoryState (inputOf turns ++ later)
+unfolding inputOf textOf
+turns-text start later none = refl
+turns-text (then turns turn) later none =
+    append-assoc (textOf turns) _ _
+    ∙ ap (λ (t : List ℕ). textOf turns ++ t) (next-text _ _ _ _ _ _ _ (turn .state-after) (turn .left) later none)
+    ∙ turns-text turns (charsRead (turn .left) ++ later) (none-read _ _ _ _ _ _ (turn .left) later none)
+    ∙ ap (replayedFrom factoryState) (sym (append-assoc (inputOf turns) _ later))
 
 pub run-theorem : RunTheorem
-unfolding unfinished
-run-theorem input text run = run-text run (λ e. refl) ∙ replay-theorem input
+run-theorem (stop turns last) =
+    ap (λ (t : List ℕ). textOf turns ++ t) (last-text _ _ _ _ _ _ (last .left) (turns-finished turns))
+    ∙ turns-text turns [] (λ e. refl)
+    ∙ rw append-nil (replay-theorem (inputOf turns))

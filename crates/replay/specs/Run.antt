@@ -1,8 +1,10 @@
--- What a run of the program prints, as far as a proof can speak of it: its turns are what the contract of `turn` says, one after the
--- other, and no read and no write fails. These lie outside it and are tested instead: that `main` and the loop in `replay` run just
--- these turns, from nothing read on; that `print` is handed the text, once and before more is read, and that `printed` is its answer;
--- that `count` and `failed` are the read's answer, and what it gave is left as it is; and what the C library reads and writes.
-use Prim.Native.Nat.{ℕ}
+-- What the program does from its start to its end: the turns that the loop in `replay` runs, why it ends, and what is printed by then.
+-- Each turn is what the contract of `turn` says, by what its print and its read answered, and the contract of `replay` says that it ends
+-- by such turns. A contract can't say what a call of C reads or writes, so these lie outside it and are tested instead: that `print`
+-- is handed the text, once and before more is read, and that `printed` is its answer; that `count` and `failed` are the read's answer, and
+-- what it gave is left as it is; that `main` calls `replay`, and `report` writes its message to standard error; and what the C library reads
+-- and writes.
+use Prim.Native.Nat.{ℕ, suc}
 use mathlib.Core.Path.{_≡_}
 use mathlib.Core.Bool.{Bool, true, false}
 use mathlib.Core.Logic.{_⊎_, inl, inr}
@@ -11,7 +13,19 @@ use Rattle.cdi_state.specs.declared.ModuleState.{ModuleState}
 use Rattle.cdi_state.specs.State.{factoryState}
 use Rattle.replay_text.specs.Replay.{linesText}
 use Rattle.replay_text.specs.Theorem.{modelReplayed}
+use Rattle.replay.specs.declared.Ending.{Ending}
+use Rattle.replay.specs.declared.Ending.the-variants.{Done, ReadFailed, WriteFailed, TurnsUsed}
 use Rattle.replay.specs.Program.{answers, Stays, ReadsOn, Turned}
+
+-- ---- the turns
+-- As many turns as the number says, one after the other, from the factory state with nothing read. All is printed, no read failed, and
+-- none of them is the last. The state, the characters that are not answered and whether the input has ended are those after them.
+pub data Turns : ℕ → ModuleState → List ℕ → Bool → Type 0 where
+  start : Turns 0 factoryState [] false
+  then : {n : ℕ} {state after : ModuleState} {chars output rest : List ℕ} {ended endedAfter : Bool} {count : ℕ}
+      → Turns n state chars ended
+      → Turned state chars ended output after rest endedAfter false true count false
+      → Turns (suc n) after rest endedAfter
 
 -- the characters that a turn read
 abbrev pub charsRead : {state : ModuleState} {chars rest : List ℕ} {ended endedAfter done printed failed : Bool} {count : ℕ}
@@ -19,16 +33,50 @@ abbrev pub charsRead : {state : ModuleState} {chars rest : List ℕ} {ended ende
 charsRead (inl stays) = []
 charsRead (inr reads) = reads .refilled .given
 
--- a run from a state and characters that are not answered: all that its turns read, and all that they print
-pub data Run : ModuleState → List ℕ → Bool → List ℕ → List ℕ → Type 0 where
-  last : {state after : ModuleState} {chars output rest : List ℕ} {ended endedAfter : Bool} {count : ℕ}
-      → Turned state chars ended output after rest endedAfter true true count false
-      → Run state chars ended [] (linesText state (answers state chars))
-  next : {state after : ModuleState} {chars output rest input text : List ℕ} {ended endedAfter : Bool} {count : ℕ}
-      → (t : Turned state chars ended output after rest endedAfter false true count false)
-      → Run after rest endedAfter input text
-      → Run state chars ended (charsRead (t .left) ++ input) (linesText state (answers state chars) ++ text)
+-- all that some turns read, and all that they print
+unfoldable pub inputOf : {n : ℕ} {state : ModuleState} {chars : List ℕ} {ended : Bool} → Turns n state chars ended → List ℕ
+inputOf start = []
+inputOf (then turns turn) = inputOf turns ++ charsRead (turn .left)
 
--- As the program starts, with nothing read: all that is printed is the text that the reference model has for all that is read.
+unfoldable pub textOf : {n : ℕ} {state : ModuleState} {chars : List ℕ} {ended : Bool} → Turns n state chars ended → List ℕ
+textOf start = []
+textOf (then {state = state} {chars = chars} turns turn) = textOf turns ++ linesText state (answers state chars)
+
+-- ---- why the program ends
+-- some turns and one more, the last, by whether all is done, its text is printed and its read failed
+pub data Stops : (done printed failed : Bool) → Type 0 where
+  stop : {n : ℕ} {state after : ModuleState} {chars output rest : List ℕ} {ended endedAfter done printed failed : Bool} {count : ℕ}
+      → Turns n state chars ended
+      → Turned state chars ended output after rest endedAfter done printed count failed
+      → Stops done printed failed
+
+-- a run to its end: all that is read is answered and printed
+abbrev pub Run : Type 0
+Run = Stops true true false
+
+-- all that it reads, and all that it prints: its last turn reads nothing
+abbrev pub runInput : Run → List ℕ
+runInput (stop turns last) = inputOf turns
+
+abbrev pub runText : Run → List ℕ
+runText (stop {state = state} {chars = chars} turns last) = textOf turns ++ linesText state (answers state chars)
+
+-- the most turns that the loop makes, the largest u64
+abbrev pub turnsMax : ℕ
+turnsMax = 18446744073709551615
+
+-- the turns are used up, and not all is done
+pub data UsesUp : Type 0 where
+  useUp : {state : ModuleState} {chars : List ℕ} {ended : Bool} → Turns turnsMax state chars ended → UsesUp
+
+-- what is known where the program ends
+abbrev pub Ends : Ending → Type 0
+Ends Done = Run
+Ends ReadFailed = Stops false true true
+Ends WriteFailed = Stops false false false
+Ends TurnsUsed = UsesUp
+
+-- ---- what is printed
+-- By a run to its end: the text that the reference model has for all that is read.
 abbrev pub RunTheorem : Type 0
-RunTheorem = (input text : List ℕ) → Run factoryState [] false input text → text ≡ modelReplayed input
+RunTheorem = (run : Run) → runText run ≡ modelReplayed (runInput run)

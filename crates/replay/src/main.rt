@@ -9,9 +9,11 @@ ghost use lib.ListN.{length, take, drop};
 ghost use Rattle.replay_text.specs.Session.{keptMax, keptOf};
 ghost use Rattle.logic.specs.Lists.{between};
 ghost use Rattle.replay.specs.Program.{bufferSize, isEnd, charsAfter, Refilled, Turned};
+ghost use Rattle.replay.specs.Run.{Ends};
 use cdi_state::ModuleState;
 use hex_text::LINE_FEED;
 use hex_text::LINE_MAX;
+use libc::STDERR_FILENO;
 use libc::STDIN_FILENO;
 use libc::STDOUT_FILENO;
 use replay_lines::PRINTED_MAX;
@@ -46,6 +48,14 @@ struct Session {
     failed: bool,
 }
 
+// Why the program ends.
+enum Ending {
+    Done,
+    ReadFailed,
+    WriteFailed,
+    TurnsUsed,
+}
+
 // Moves input[from..end] to the front, as much of it as has to be kept, and returns how much that is.
 fn keep(input: &mut [u8], from: usize, end: usize) -> usize
     requires { ⌜ (from ≤ end) × (end ≤ length (now input)) ⌝ }
@@ -60,7 +70,7 @@ fn keep(input: &mut [u8], from: usize, end: usize) -> usize
     i
 }
 
-// Reads once, behind the first `kept` bytes of `input`, and returns what the read answered. Where it failed, standard error says why.
+// Reads once, behind the first `kept` bytes of `input`, and returns what the read answered.
 fn read_input(input: &mut [u8], kept: usize) -> Piece
     requires { ⌜ kept ≤ length (now input) ⌝ }
     ensures { λ r. ⌜ (kept + r .count ≤ length (now (input .entry))) × (take kept (now (input .exit)) ≡ take kept (now (input .entry))) ⌝ }
@@ -68,9 +78,6 @@ fn read_input(input: &mut [u8], kept: usize) -> Piece
     let part = &mut input[kept..];
     let got = libc::read(STDIN_FILENO, part);
     let count = io::count(got, part);
-    if got < 0 {
-        os::fail(b"replay: standard input cannot be read");
-    }
     Piece {
         count,
         failed: got < 0,
@@ -108,13 +115,9 @@ fn refill(input: &mut [u8], from: usize, end: usize) -> Filled
     Filled { end, count, failed }
 }
 
-// Prints a text and returns whether it could. Where it could not, standard error says why.
+// Prints a text and returns whether it could.
 fn print(text: &[u8]) -> bool {
-    let printed = io::write_all(STDOUT_FILENO, text);
-    if !printed {
-        os::fail(b"replay: standard output cannot be written");
-    }
-    printed
+    io::write_all(STDOUT_FILENO, text)
 }
 
 // Answers as many lines as there is room for, prints that, and reads on where no whole line is left. What is answered is printed
@@ -165,8 +168,9 @@ fn turn(session: Session, input: &mut [u8], output: &mut [u8]) -> Session
 }
 
 // A proved loop has to end, and nothing says that the input does. So the turns are counted down, from a number that no run uses up.
-fn replay(input: &mut [u8], output: &mut [u8])
+fn replay(input: &mut [u8], output: &mut [u8]) -> Ending
     requires { ⌜ (length (now input) ≡ bufferSize) × (length (now output) ≡ bufferSize) ⌝ }
+    ensures { λ r. ⌜ Ends r ⌝ }
 {
     let mut session = Session {
         state: ModuleState::factory(),
@@ -184,15 +188,37 @@ fn replay(input: &mut [u8], output: &mut [u8])
         let done = session.done;
         let printed = session.printed;
         let failed = session.failed;
-        if done | !printed | failed {
-            return;
+        if done {
+            return Ending::Done;
+        }
+        if !printed {
+            return Ending::WriteFailed;
+        }
+        if failed {
+            return Ending::ReadFailed;
         }
         turns -= 1;
+    }
+    Ending::TurnsUsed
+}
+
+// Says on standard error why the program ends before all is done. `os::fail` adds the reason that the failed call left.
+fn report(ending: Ending) {
+    match ending {
+        Ending::Done => {}
+        Ending::ReadFailed => os::fail(b"replay: standard input cannot be read"),
+        Ending::WriteFailed => os::fail(b"replay: standard output cannot be written"),
+        Ending::TurnsUsed => {
+            io::write_all(
+                STDERR_FILENO,
+                b"replay: stopped after 18446744073709551615 turns, with input left\n",
+            );
+        }
     }
 }
 
 fn main() {
     let mut input = io::large_buffer();
     let mut output = io::large_buffer();
-    replay(&mut input, &mut output);
+    report(replay(&mut input, &mut output));
 }
