@@ -13,14 +13,14 @@ use Rattle.logic.proofs.Choice.{by-cases}
 use Rattle.cdi_state.specs.declared.ModuleState.{ModuleState}
 use Rattle.replay_text.specs.Replay.{lines, linesText, linesState, replayedFrom}
 use Rattle.replay_text.specs.Answered.{hasLineFeed, unfinished}
-use Rattle.replay_text.specs.Session.{keptMax, keptOf, lastLine}
+use Rattle.replay_text.specs.Session.{keptMax, keptOf, lastLine, joined}
 use Rattle.replay_text.proofs.Lines.{unfinished-has-none, last-line-finished}
 use Rattle.replay_text.proofs.Laws.{pieces, pieces-then, unfinished-kept, last-line, none-taken, kept-enough}
 use Rattle.replay_text.proofs.Theorem.{replay-theorem}
 use Rattle.replay.specs.Program.{bufferSize, isEnd, charsAfter, answers, leftBehind, Stays, ReadsOn}
 use Rattle.replay.proofs.Left.{not-finished, at-last}
 use Rattle.cdi_state.specs.State.{factoryState}
-use Rattle.replay.specs.Run.{Turns, start, then, charsRead, inputOf, textOf, stop, RunTheorem}
+use Rattle.replay.specs.Run.{Turns, start, then, charsRead, readsOf, textOf, stop, RunTheorem}
 
 -- where the input has ended, what is there are whole lines
 abbrev Finished : Bool → List ℕ → Type 0
@@ -65,7 +65,7 @@ none-given [] count e at = refl
 none-given (c ∷ given) count e at = absurd (false≢true (rw (lt-ltb 0 count (omega (arith, e))) at at))
 
 module _ (s : ModuleState) (chars rest : List ℕ) (ended endedAfter : Bool) (count : ℕ) where
-  abbrev Left : Type 0
+  abbrev pub Left : Type 0
   Left = Stays s chars ended rest endedAfter false true false ⊎ ReadsOn s chars ended rest endedAfter false true count false
 
   -- where the input has ended no more is read
@@ -85,7 +85,7 @@ module _ (s : ModuleState) (chars rest : List ℕ) (ended endedAfter : Bool) (co
         ap unfinished line ∙ last-line-finished kept part
 
     -- what it prints and what is there after it continue to the text, with what it read and whatever is read later
-    next-text : (left : Left) (later : List ℕ) → (endedAfter ≡ true → later ≡ [])
+    pub next-text : (left : Left) (later : List ℕ) → (endedAfter ≡ true → later ≡ [])
         → linesText s (answers s chars) ++ replayedFrom after (rest ++ later) ≡ replayedFrom s (chars ++ (charsRead left ++ later))
     next-text (inl stays) later none = rw (stays .same) (left-text s after chars state-after later)
     next-text (inr reads) later none =
@@ -108,18 +108,24 @@ unfolding unfinished
 turns-finished start = λ e. refl
 turns-finished (then turns turn) = next-finished _ _ _ _ _ _ _ (turn .state-after) (turn .left) (turns-finished turns)
 
-turns-text : {n : ℕ} {s : ModuleState} {chars : List ℕ} {ended : Bool} (turns : Turns n s chars ended) (later : List ℕ) → (ended ≡ true → later ≡ [])
-    → textOf turns ++ replayedFrom s (chars ++ later) ≡ replayedFrom factoryState (inputOf turns ++ later)
-unfolding inputOf textOf
+-- one more part of the input
+pub joined-one : (reads : List (List ℕ)) (more later : List ℕ) → joined (reads ++ more ∷ []) ++ later ≡ joined reads ++ (more ++ later)
+unfolding joined
+joined-one [] more later = rw append-nil
+joined-one (read ∷ reads) more later = append-assoc read _ later ∙ ap (λ (l : List ℕ). read ++ l) (joined-one reads more later) ∙ sym (append-assoc read _ _)
+
+pub turns-text : {n : ℕ} {s : ModuleState} {chars : List ℕ} {ended : Bool} (turns : Turns n s chars ended) (later : List ℕ) → (ended ≡ true → later ≡ [])
+    → textOf turns ++ replayedFrom s (chars ++ later) ≡ replayedFrom factoryState (joined (readsOf turns) ++ later)
+unfolding readsOf textOf joined
 turns-text start later none = refl
 turns-text (then turns turn) later none =
     append-assoc (textOf turns) _ _
     ∙ ap (λ (t : List ℕ). textOf turns ++ t) (next-text _ _ _ _ _ _ _ (turn .state-after) (turn .left) later none)
     ∙ turns-text turns (charsRead (turn .left) ++ later) (none-read _ _ _ _ _ _ (turn .left) later none)
-    ∙ ap (replayedFrom factoryState) (sym (append-assoc (inputOf turns) _ later))
+    ∙ ap (replayedFrom factoryState) (sym (joined-one (readsOf turns) _ later))
 
 pub run-theorem : RunTheorem
 run-theorem (stop turns last) =
     ap (λ (t : List ℕ). textOf turns ++ t) (last-text _ _ _ _ _ _ (last .left) (turns-finished turns))
     ∙ turns-text turns [] (λ e. refl)
-    ∙ rw append-nil (replay-theorem (inputOf turns))
+    ∙ rw append-nil (replay-theorem (joined (readsOf turns)))

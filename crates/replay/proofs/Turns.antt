@@ -10,9 +10,9 @@ use Rattle.replay.specs.Program.{isFull, Stays, ReadsOn, Turned}
 use Rattle.replay.specs.declared.Ending.the-variants.{Done, ReadFailed, WriteFailed}
 use Rattle.replay.specs.Run.{Turns, then, Stops, stop, Ends}
 
-both : (a b : Bool) → a && b ≡ true → a ≡ true
-both true b e = refl
-both false b e = e
+pub both : (a b : Bool) → a && b ≡ true → (a ≡ true) × (b ≡ true)
+both true b e = (refl, e)
+both false b e = (e, cc)
 
 module _ (state : ModuleState) (chars rest : List ℕ) (ended endedAfter done printed failed : Bool) (count : ℕ) where
   abbrev Left : Type 0
@@ -20,7 +20,7 @@ module _ (state : ModuleState) (chars rest : List ℕ) (ended endedAfter done pr
 
   -- what is done is printed, and no read failed
   when-done : Left → done ≡ true → (printed ≡ true) × (failed ≡ false)
-  when-done (inl stays) d = (both printed (not (isFull state chars)) (sym (stays .is-done) ∙ d), stays .not-failed)
+  when-done (inl stays) d = (both printed (not (isFull state chars)) (sym (stays .is-done) ∙ d) .0, stays .not-failed)
   when-done (inr reads) d = absurd (false≢true (sym (reads .not-done) ∙ d))
 
   -- where nothing could be printed, not all is done and nothing is read

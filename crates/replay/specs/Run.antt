@@ -8,10 +8,11 @@ use Prim.Native.Nat.{ℕ, suc}
 use mathlib.Core.Path.{_≡_}
 use mathlib.Core.Bool.{Bool, true, false}
 use mathlib.Core.Logic.{_⊎_, inl, inr}
-use mathlib.Core.List.{List, [], _++_}
+use mathlib.Core.List.{List, [], _∷_, _++_}
 use Rattle.cdi_state.specs.declared.ModuleState.{ModuleState}
 use Rattle.cdi_state.specs.State.{factoryState}
 use Rattle.replay_text.specs.Replay.{linesText}
+use Rattle.replay_text.specs.Session.{joined}
 use Rattle.replay_text.specs.Theorem.{modelReplayed}
 use Rattle.replay.specs.declared.Ending.{Ending}
 use Rattle.replay.specs.declared.Ending.the-variants.{Done, ReadFailed, WriteFailed, TurnsUsed}
@@ -33,10 +34,10 @@ abbrev pub charsRead : {state : ModuleState} {chars rest : List ℕ} {ended ende
 charsRead (inl stays) = []
 charsRead (inr reads) = reads .refilled .given
 
--- all that some turns read, and all that they print
-unfoldable pub inputOf : {n : ℕ} {state : ModuleState} {chars : List ℕ} {ended : Bool} → Turns n state chars ended → List ℕ
-inputOf start = []
-inputOf (then turns turn) = inputOf turns ++ charsRead (turn .left)
+-- what some turns read, one part of the input for each, and all that they print
+unfoldable pub readsOf : {n : ℕ} {state : ModuleState} {chars : List ℕ} {ended : Bool} → Turns n state chars ended → List (List ℕ)
+readsOf start = []
+readsOf (then turns turn) = readsOf turns ++ charsRead (turn .left) ∷ []
 
 unfoldable pub textOf : {n : ℕ} {state : ModuleState} {chars : List ℕ} {ended : Bool} → Turns n state chars ended → List ℕ
 textOf start = []
@@ -54,9 +55,9 @@ pub data Stops : (done printed failed : Bool) → Type 0 where
 abbrev pub Run : Type 0
 Run = Stops true true false
 
--- all that it reads, and all that it prints: its last turn reads nothing
-abbrev pub runInput : Run → List ℕ
-runInput (stop turns last) = inputOf turns
+-- what it reads, and all that it prints: its last turn reads nothing
+abbrev pub runReads : Run → List (List ℕ)
+runReads (stop turns last) = readsOf turns
 
 abbrev pub runText : Run → List ℕ
 runText (stop {state = state} {chars = chars} turns last) = textOf turns ++ linesText state (answers state chars)
@@ -79,4 +80,4 @@ Ends TurnsUsed = UsesUp
 -- ---- what is printed
 -- By a run to its end: the text that the reference model has for all that is read.
 abbrev pub RunTheorem : Type 0
-RunTheorem = (run : Run) → runText run ≡ modelReplayed (runInput run)
+RunTheorem = (run : Run) → runText run ≡ modelReplayed (joined (runReads run))

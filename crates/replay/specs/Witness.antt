@@ -1,0 +1,65 @@
+-- Runs that exist, and ends by failure that exist: what is claimed of them is claimed of something.
+use Prim.Native.Nat.{ℕ, _-_, _≤_}
+use mathlib.Core.Path.{_≡_}
+use mathlib.Core.Bool.{true}
+use mathlib.Core.List.{List, [], _∷_, _++_}
+use lib.Dec.{ltb}
+use lib.ListN.{length, take, drop}
+use Rattle.logic.specs.Lists.{all}
+use Rattle.replay_text.specs.Answered.{printedMax}
+use Rattle.replay_text.specs.Session.{joined}
+use Rattle.replay_text.specs.Theorem.{modelReplayed}
+use Rattle.replay.specs.declared.Ending.the-variants.{ReadFailed, WriteFailed, TurnsUsed}
+use Rattle.replay.specs.Program.{bufferSize}
+use Rattle.replay.specs.Run.{Run, runReads, runText, Ends}
+
+-- Document 01, "Examples": the five lines of the replay program's input, as bytes,
+--     80 55 82 01 15
+--     80 55 83 02 15 03
+--     80 55 83 02 15 07
+--     80 55 82 01 15
+--     80 55 82 03 25
+abbrev pub exampleInput : List ℕ
+exampleInput =
+    56 ∷ 48 ∷ 32 ∷ 53 ∷ 53 ∷ 32 ∷ 56 ∷ 50 ∷ 32 ∷ 48 ∷ 49 ∷ 32 ∷ 49 ∷ 53 ∷ 10 ∷
+    56 ∷ 48 ∷ 32 ∷ 53 ∷ 53 ∷ 32 ∷ 56 ∷ 51 ∷ 32 ∷ 48 ∷ 50 ∷ 32 ∷ 49 ∷ 53 ∷ 32 ∷ 48 ∷ 51 ∷ 10 ∷
+    56 ∷ 48 ∷ 32 ∷ 53 ∷ 53 ∷ 32 ∷ 56 ∷ 51 ∷ 32 ∷ 48 ∷ 50 ∷ 32 ∷ 49 ∷ 53 ∷ 32 ∷ 48 ∷ 55 ∷ 10 ∷
+    56 ∷ 48 ∷ 32 ∷ 53 ∷ 53 ∷ 32 ∷ 56 ∷ 50 ∷ 32 ∷ 48 ∷ 49 ∷ 32 ∷ 49 ∷ 53 ∷ 10 ∷
+    56 ∷ 48 ∷ 32 ∷ 53 ∷ 53 ∷ 32 ∷ 56 ∷ 50 ∷ 32 ∷ 48 ∷ 51 ∷ 32 ∷ 50 ∷ 53 ∷ 10 ∷ []
+
+-- and what it prints for them
+--     80 55 83 C1 15 00
+--     80 55 85 C0 00 02 15 03
+--     refused 12
+--     80 55 83 C1 15 03
+--     refused 10
+abbrev pub exampleText : List ℕ
+exampleText =
+    56 ∷ 48 ∷ 32 ∷ 53 ∷ 53 ∷ 32 ∷ 56 ∷ 51 ∷ 32 ∷ 67 ∷ 49 ∷ 32 ∷ 49 ∷ 53 ∷ 32 ∷ 48 ∷ 48 ∷ 10 ∷
+    56 ∷ 48 ∷ 32 ∷ 53 ∷ 53 ∷ 32 ∷ 56 ∷ 53 ∷ 32 ∷ 67 ∷ 48 ∷ 32 ∷ 48 ∷ 48 ∷ 32 ∷ 48 ∷ 50 ∷ 32 ∷ 49 ∷ 53 ∷ 32 ∷ 48 ∷ 51 ∷ 10 ∷
+    114 ∷ 101 ∷ 102 ∷ 117 ∷ 115 ∷ 101 ∷ 100 ∷ 32 ∷ 49 ∷ 50 ∷ 10 ∷
+    56 ∷ 48 ∷ 32 ∷ 53 ∷ 53 ∷ 32 ∷ 56 ∷ 51 ∷ 32 ∷ 67 ∷ 49 ∷ 32 ∷ 49 ∷ 53 ∷ 32 ∷ 48 ∷ 51 ∷ 10 ∷
+    114 ∷ 101 ∷ 102 ∷ 117 ∷ 115 ∷ 101 ∷ 100 ∷ 32 ∷ 49 ∷ 48 ∷ 10 ∷ []
+
+-- there is a run that reads these parts, one in each turn, and prints this text
+pub record Prints (reads : List (List ℕ)) (text : List ℕ) : Type 0 where
+  pub run : Run
+  pub as-read : runReads run ≡ reads
+  pub as-printed : runText run ≡ text
+
+pub record Witnesses : Type 0 where
+  -- a log whose text leaves room in the output buffer, read in any parts and then to its end, has a run that prints the model's text
+  pub short-logs : (parts : List (List ℕ)) → all (λ part. ltb 0 (length part)) parts ≡ true → length (modelReplayed (joined parts)) ≤ bufferSize - printedMax
+      → Prints (parts ++ [] ∷ []) (modelReplayed (joined parts))
+  -- the empty log prints nothing
+  pub empty : Prints ([] ∷ []) []
+  -- document 01's five lines print what it says, read at once, ...
+  pub at-once : Prints (exampleInput ∷ [] ∷ []) exampleText
+  -- ... and in two parts, of which the first ends within the second line
+  pub in-two-parts : Prints (take 20 exampleInput ∷ drop 20 exampleInput ∷ [] ∷ []) exampleText
+  -- the program can end in each of the other ways
+  pub read-failed : Ends ReadFailed
+  pub write-failed : Ends WriteFailed
+  pub turns-used : Ends TurnsUsed
+  -- two runs that read the same input print the same text
+  pub same-text : (a b : Run) → joined (runReads a) ≡ joined (runReads b) → runText a ≡ runText b
