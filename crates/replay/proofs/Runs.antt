@@ -8,19 +8,21 @@ use mathlib.Core.Logic.{_⊎_, inl, inr}
 use mathlib.Core.List.{List, [], _∷_, _++_, append-nil, append-assoc}
 use native.Mathlib.Omega.{arith}
 use borrow.Author.Tests.{lt-ltb}
-use lib.ListN.{length}
+use lib.ListN.{length, take}
+use lib.Seq.{take-at}
 use Rattle.logic.proofs.Choice.{by-cases}
 use Rattle.cdi_state.specs.declared.ModuleState.{ModuleState}
 use Rattle.replay_text.specs.Replay.{lines, linesText, linesState, replayedFrom}
 use Rattle.replay_text.specs.Answered.{hasLineFeed, unfinished}
 use Rattle.replay_text.specs.Session.{keptMax, keptOf, lastLine, joined}
+use Rattle.replay_text.specs.Theorem.{modelReplayed}
 use Rattle.replay_text.proofs.Lines.{unfinished-has-none, last-line-finished}
 use Rattle.replay_text.proofs.Laws.{pieces, pieces-then, unfinished-kept, last-line, none-taken, kept-enough}
 use Rattle.replay_text.proofs.Theorem.{replay-theorem}
 use Rattle.replay.specs.Program.{bufferSize, isEnd, charsAfter, answers, leftBehind, Stays, ReadsOn}
 use Rattle.replay.proofs.Left.{not-finished, at-last}
 use Rattle.cdi_state.specs.State.{factoryState}
-use Rattle.replay.specs.Run.{Turns, start, then, charsRead, readsOf, textOf, stop, RunTheorem}
+use Rattle.replay.specs.Run.{Turns, start, then, charsRead, readsOf, textOf, Stops, stop, runReads, runText, RunTheorem}
 
 -- where the input has ended, what is there are whole lines
 abbrev Finished : Bool → List ℕ → Type 0
@@ -124,8 +126,19 @@ turns-text (then turns turn) later none =
     ∙ turns-text turns (charsRead (turn .left) ++ later) (none-read _ _ _ _ _ _ (turn .left) later none)
     ∙ ap (replayedFrom factoryState) (sym (joined-one (readsOf turns) _ later))
 
+-- so what is left to be answered is all that the model's text has more
+so-far : {n : ℕ} {s : ModuleState} {chars : List ℕ} {ended : Bool} (turns : Turns n s chars ended)
+    → textOf turns ++ replayedFrom s (chars ++ []) ≡ modelReplayed (joined (readsOf turns))
+so-far turns = turns-text turns [] (λ e. refl) ∙ rw append-nil (replay-theorem (joined (readsOf turns)))
+
+whole-text : {output : List ℕ} {after : ModuleState} {rest : List ℕ} {endedAfter : Bool} {count : ℕ}
+    (run : Stops output after rest endedAfter true true count false) → runText run ≡ modelReplayed (joined (runReads run))
+whole-text (stop turns turn last) =
+    ap (λ (t : List ℕ). textOf turns ++ t) (last-text _ _ _ _ _ _ (turn .left) (turns-finished turns)) ∙ so-far turns
+
+front-text : {n : ℕ} {s : ModuleState} {chars : List ℕ} {ended : Bool} (turns : Turns n s chars ended)
+    → take (length (textOf turns)) (modelReplayed (joined (readsOf turns))) ≡ textOf turns
+front-text {s = s} {chars = chars} turns = rw (← so-far turns) (take-at (textOf turns) (replayedFrom s (chars ++ [])) (length (textOf turns)) refl)
+
 pub run-theorem : RunTheorem
-run-theorem (stop turns last) =
-    ap (λ (t : List ℕ). textOf turns ++ t) (last-text _ _ _ _ _ _ (last .left) (turns-finished turns))
-    ∙ turns-text turns [] (λ e. refl)
-    ∙ rw append-nil (replay-theorem (joined (readsOf turns)))
+run-theorem = record { whole = whole-text; front = front-text }

@@ -1,14 +1,17 @@
 -- One turn more after a chain of turns: it is the next of them, or the program ends by it.
 -- Assumes nothing.
-use Prim.Native.Nat.{ℕ, suc}
+use Prim.Native.Nat.{ℕ, suc, _<_}
 use mathlib.Core.Path.{_≡_, refl, sym, _∙_}
-use mathlib.Core.Bool.{Bool, true, false, not, _&&_, false≢true}
+use mathlib.Core.Bool.{Bool, true, false, not, _&&_, _||_, false≢true}
 use mathlib.Core.Logic.{_⊎_, inl, inr}
 use mathlib.Core.List.{List}
+use native.Mathlib.Omega.{arith}
+use borrow.Author.Tests.{eqb-true, eqb-false, not-false}
+use lib.Dec.{eqb}
+use Rattle.logic.proofs.Choice.{by-cases, neither}
 use Rattle.cdi_state.specs.declared.ModuleState.{ModuleState}
 use Rattle.replay.specs.Program.{isFull, Stays, ReadsOn, Turned}
-use Rattle.replay.specs.declared.Ending.the-variants.{Done, ReadFailed, WriteFailed}
-use Rattle.replay.specs.Run.{Turns, then, Stops, stop, Ends}
+use Rattle.replay.specs.Run.{Turns, then, turnsMax, Last, is-done, not-printed, read-failed, used-up, Stops, stop}
 
 pub both : (a b : Bool) → a && b ≡ true → (a ≡ true) × (b ≡ true)
 both true b e = (refl, e)
@@ -28,19 +31,32 @@ module _ (state : ModuleState) (chars rest : List ℕ) (ended endedAfter done pr
   when-unprinted (inl stays) p = (stays .is-done ∙ rw p, stays .not-failed)
   when-unprinted (inr reads) p = absurd (false≢true (sym p ∙ reads .is-printed))
 
-module _ {n count : ℕ} {state after : ModuleState} {chars output rest : List ℕ} {ended endedAfter done printed failed : Bool}
+  -- a turn that the loop leaves by its test is the last in one of the four ways
+  is-last : (n turns : ℕ) → Left → ((done || not printed) || failed) || eqb turns 0 ≡ true → (turns ≡ 0 → n ≡ turnsMax) → Last n done printed failed
+  is-last n turns left test used =
+      by-cases done (λ d. let known = when-done left d in rw (d, known .0, known .1) is-done)
+      (λ d.
+      by-cases printed
+      (λ p.
+      by-cases failed (λ f. rw (d, p, f) read-failed) (λ f. rw (d, p, f, used (eqb-true turns 0 (rw (d, p, f) at test))) used-up))
+      (λ p. let known = when-unprinted left p in rw (d, p, known .1) not-printed))
+
+  -- and one that it goes on from is not
+  is-next : (turns : ℕ) → ((done || not printed) || failed) || eqb turns 0 ≡ false
+      → (done ≡ false) × (printed ≡ true) × (failed ≡ false) × (0 < turns)
+  is-next turns test =
+      let first = neither ((done || not printed) || failed) (eqb turns 0) test in
+      let second = neither (done || not printed) failed (first .0) in
+      let third = neither done (not printed) (second .0) in
+      let some = eqb-false turns 0 (first .1) in
+      (third .0, not-false printed (third .1), second .1, omega (arith, some))
+
+module _ {n count : ℕ} {state after : ModuleState} {chars output rest : List ℕ} {ended endedAfter done printed failed : Bool} (left : ℕ)
     (turns : Turns n state chars ended) (turn : Turned state chars ended output after rest endedAfter done printed count failed) where
-  stops : (d p f : Bool) → done ≡ d → printed ≡ p → failed ≡ f → Stops d p f
-  stops d p f is-done is-printed is-failed = stop turns (rw (is-done, is-printed, is-failed) at turn)
+  pub stops : ((done || not printed) || failed) || eqb left 0 ≡ true → (left ≡ 0 → suc n ≡ turnsMax) → Stops output after rest endedAfter done printed count failed
+  stops test used = stop turns turn (is-last _ _ _ _ _ _ _ _ _ (suc n) left (turn .left) test used)
 
-  pub goes-on : done ≡ false → printed ≡ true → failed ≡ false → Turns (suc n) after rest endedAfter
-  goes-on d p f = then turns (rw (d, p, f) at turn)
-
-  pub ends-done : done ≡ true → Ends Done
-  ends-done d = let known = when-done _ _ _ _ _ _ _ _ _ (turn .left) d in stops true true false d (known .0) (known .1)
-
-  pub ends-unprinted : printed ≡ false → Ends WriteFailed
-  ends-unprinted p = let known = when-unprinted _ _ _ _ _ _ _ _ _ (turn .left) p in stops false false false (known .0) p (known .1)
-
-  pub ends-unread : done ≡ false → printed ≡ true → failed ≡ true → Ends ReadFailed
-  ends-unread = stops false true true
+  pub goes-on : ((done || not printed) || failed) || eqb left 0 ≡ false → (0 < left) × Turns (suc n) after rest endedAfter
+  goes-on test =
+      let known = is-next state chars rest ended endedAfter done printed failed count left test in
+      (known .3, then turns (rw (known .0, known .1, known .2) at turn))

@@ -11,7 +11,7 @@ use lib.Dec.{ltb}
 use lib.ListN.{length, take, drop, length-append}
 use lib.Seq.{take-all}
 use Rattle.logic.specs.Lists.{all}
-use Rattle.hex_text.specs.Hex.{space, lineFeed, pairs, hexLine}
+use Rattle.hex_text.specs.Hex.{pairs, hexLine}
 use Rattle.response_text.specs.Text.{hexText}
 use Rattle.cdi_state.specs.declared.ModuleState.{ModuleState}
 use Rattle.cdi_state.specs.State.{factoryState}
@@ -22,10 +22,9 @@ use Rattle.replay_text.specs.Theorem.{modelReplayed}
 use Rattle.replay_text.proofs.Laws.{pieces-then}
 use Rattle.replay_text.proofs.Theorem.{replay-theorem}
 use Rattle.replay_text.proofs.Examples.{example-by-model, shortest-inputs}
-use Rattle.replay.specs.declared.Ending.the-variants.{ReadFailed, WriteFailed}
 use Rattle.replay.specs.Program.{bufferSize, isEnd, charsAfter, answers, leftBehind, isFull, Turned}
-use Rattle.replay.specs.Run.{Turns, start, then, readsOf, Run, stop, useUp, runReads, Ends}
-use Rattle.replay.specs.Witness.{exampleInput, exampleText, Prints, Witnesses}
+use Rattle.replay.specs.Run.{Turns, start, then, readsOf, is-done, not-printed, read-failed, used-up, Stops, stop, runReads}
+use Rattle.replay.specs.Witness.{exampleInput, exampleText, spaceLine, notHexLine, Prints, prints, Witnesses}
 use Rattle.replay.proofs.Turns.{both}
 use Rattle.replay.proofs.Runs.{next-text, joined-one, run-theorem}
 
@@ -63,8 +62,8 @@ module _ (s : ModuleState) (chars : List ℕ) (room : isFull s chars ≡ false) 
         });
       }
 
-  is-last : Turned s chars true (linesText s (answers s chars)) after (leftBehind s chars) true true true 0 false
-  is-last =
+  ends-here : Turned s chars true (linesText s (answers s chars)) after (leftBehind s chars) true true true 0 false
+  ends-here =
       record {
         text = front _;
         state-after = refl;
@@ -72,12 +71,12 @@ module _ (s : ModuleState) (chars : List ℕ) (room : isFull s chars ≡ false) 
       }
 
 -- a run that goes on after some turns with these parts
-record GoesOn {n : ℕ} {s : ModuleState} {chars : List ℕ} {ended : Bool} (turns : Turns n s chars ended) (parts : List (List ℕ)) : Type 0 where
-  run : Run
-  as-read : runReads run ≡ readsOf turns ++ parts
+data GoesOn : List (List ℕ) → Type 0 where
+  goesOn : {output rest : List ℕ} {after : ModuleState} {endedAfter : Bool} {count : ℕ} {reads : List (List ℕ)}
+      (run : Stops output after rest endedAfter true true count false) → runReads run ≡ reads → GoesOn reads
 
 run-on : {n : ℕ} {s : ModuleState} {chars : List ℕ} (turns : Turns n s chars false) (parts : List (List ℕ)) → all (λ part. ltb 0 (length part)) parts ≡ true
-    → length (replayedFrom s (chars ++ joined parts)) ≤ bufferSize - printedMax → GoesOn turns (parts ++ [] ∷ [])
+    → length (replayedFrom s (chars ++ joined parts)) ≤ bufferSize - printedMax → GoesOn (readsOf turns ++ (parts ++ [] ∷ []))
 unfolding readsOf joined reads-on
 run-on {s = s} {chars = chars} turns [] some short =
     let turn = reads-on s chars (room-left s chars [] short) [] true refl in
@@ -85,7 +84,7 @@ run-on {s = s} {chars = chars} turns [] some short =
     let next = linesState s (answers s chars) in
     let text = next-text s chars line false true 0 next refl (turn .left) [] (λ e. refl) in
     let room = room-left next line [] (omega (arith, longer (linesText s (answers s chars)) (replayedFrom next (line ++ [])) (replayedFrom s (chars ++ [])) text)) in
-    record { run = stop (then turns turn) (is-last next line room); as-read = refl }
+    goesOn (stop (then turns turn) (ends-here next line room) is-done) refl
 run-on {s = s} {chars = chars} turns (part ∷ parts) some short =
     let each = both (ltb 0 (length part)) (all (λ p. ltb 0 (length p)) parts) some in
     let turn = reads-on s chars (room-left s chars (part ++ joined parts) short) part false (rw (each .0)) in
@@ -93,17 +92,18 @@ run-on {s = s} {chars = chars} turns (part ∷ parts) some short =
     let next = linesState s (answers s chars) in
     let text = next-text s chars there false false (length part) next refl (turn .left) (joined parts) (λ e. absurd (false≢true e)) in
     let short-rest = longer (linesText s (answers s chars)) (replayedFrom next (there ++ joined parts)) (replayedFrom s (chars ++ (part ++ joined parts))) text in
-    let more = run-on (then turns turn) parts (each .1) (omega arith) in
-    record { run = more .run; as-read = more .as-read ∙ append-assoc (readsOf turns) _ _ }
+    rw (append-assoc (readsOf turns) (part ∷ []) (parts ++ [] ∷ [])) at (run-on (then turns turn) parts (each .1) (omega arith))
 
 -- ---- the runs
+printed-text : (parts : List (List ℕ)) → GoesOn (parts ++ [] ∷ []) → Prints (parts ++ [] ∷ []) (modelReplayed (joined parts))
+printed-text parts (goesOn run as-read) =
+    let whole : joined (parts ++ [] ∷ []) ≡ joined parts = simp append-nil at (joined-one parts [] []) in
+    prints run as-read (run-theorem .whole run ∙ ap (λ (l : List (List ℕ)). modelReplayed (joined l)) as-read ∙ ap modelReplayed whole)
+
 short-runs : (parts : List (List ℕ)) → all (λ part. ltb 0 (length part)) parts ≡ true → length (modelReplayed (joined parts)) ≤ bufferSize - printedMax
     → Prints (parts ++ [] ∷ []) (modelReplayed (joined parts))
 unfolding readsOf
-short-runs parts some short =
-    let ran = run-on start parts some (rw (replay-theorem (joined parts)) short) in
-    let whole : joined (parts ++ [] ∷ []) ≡ joined parts = simp append-nil at (joined-one parts [] []) in
-    record { run = ran .run; as-read = ran .as-read; as-printed = run-theorem (ran .run) ∙ ap (λ (l : List (List ℕ)). modelReplayed (joined l)) (ran .as-read) ∙ ap modelReplayed whole }
+short-runs parts some short = printed-text parts (run-on start parts some (rw (replay-theorem (joined parts)) short))
 
 example-model : modelReplayed exampleInput ≡ exampleText
 unfolding hexText withLineFeeds
@@ -115,16 +115,36 @@ example-runs parts some whole =
     let text : modelReplayed (joined parts) ≡ exampleText = ap modelReplayed whole ∙ example-model in
     rw text at (short-runs parts some (rw text (omega arith)))
 
+same : {reads others : List (List ℕ)} {text other : List ℕ} → Prints reads text → Prints others other → joined reads ≡ joined others → text ≡ other
+same (prints run reads text) (prints run' reads' text') e =
+    sym text ∙ run-theorem .whole run ∙ ap modelReplayed (ap joined reads ∙ e ∙ ap joined (sym reads')) ∙ sym (run-theorem .whole run') ∙ text'
+
 -- ---- the other ends
 nothing-there : isFull factoryState [] ≡ false
 unfolding lines linesText
 nothing-there = room-left factoryState [] [] (omega arith)
 
--- the first read fails
-unread : Ends ReadFailed
+space-room : isFull factoryState spaceLine ≡ false
+space-room = room-left factoryState spaceLine [] (rw (shortest-inputs .3) (omega arith))
+
+-- a line of one space is read, and then another: the state stays, and nothing is left of the line before it
+first-space : Turned factoryState [] false [] factoryState spaceLine false false true 2 false
+unfolding lines wholePart fitting withLineFeeds linesText linesState
+first-space = reads-on factoryState [] nothing-there spaceLine false refl
+
+next-space : Turned factoryState spaceLine false notHexLine factoryState spaceLine false false true 2 false
+unfolding lines wholePart fitting withLineFeeds linesText linesState pairs hexLine
+next-space = reads-on factoryState spaceLine space-room spaceLine false refl
+
+space-lines : (n : ℕ) → Turns (suc n) factoryState spaceLine false
+space-lines zero = then start first-space
+space-lines (suc n) = then (space-lines n) next-space
+
+unread : Turned factoryState [] false [] factoryState [] false false true 0 true
+unfolding lines wholePart fitting withLineFeeds linesText linesState
 unread =
-    stop start (record {
-      text = front _;
+    record {
+      text = refl;
       state-after = refl;
       left = inr (record {
         is-printed = refl;
@@ -134,35 +154,12 @@ unread =
         end-told = refl;
         not-done = refl;
       });
-    })
+    }
 
--- the example is read and its text can't be printed
-unprinted : Ends WriteFailed
+unprinted : Turned factoryState spaceLine false notHexLine factoryState [] false false false 0 false
+unfolding lines wholePart fitting withLineFeeds linesText linesState pairs hexLine
 unprinted =
-    stop {count = 0} (then start (reads-on factoryState [] nothing-there exampleInput false refl)) (record {
-      text = front _;
-      state-after = refl;
-      left = inl (record { same = refl; same-end = refl; why = refl; is-done = refl; not-failed = refl });
-    })
-
--- a line of one space after the other, each in a read of its own: the state stays, and nothing is left of them
-abbrev spaceLine : List ℕ
-spaceLine = space ∷ lineFeed ∷ []
-
-space-room : isFull factoryState spaceLine ≡ false
-space-room = room-left factoryState spaceLine [] (rw (shortest-inputs .3) (omega arith))
-
-one-more : Turned factoryState spaceLine false (linesText factoryState (answers factoryState spaceLine)) factoryState spaceLine false false true 2 false
-unfolding lines wholePart fitting withLineFeeds linesState pairs hexLine
-one-more = reads-on factoryState spaceLine space-room spaceLine false refl
-
-first-one : Turned factoryState [] false (linesText factoryState (answers factoryState [])) factoryState spaceLine false false true 2 false
-unfolding lines wholePart fitting withLineFeeds linesState
-first-one = reads-on factoryState [] nothing-there spaceLine false refl
-
-space-lines : (n : ℕ) → Turns (suc n) factoryState spaceLine false
-space-lines zero = then start first-one
-space-lines (suc n) = then (space-lines n) one-more
+    record { text = refl; state-after = refl; left = inl (record { same = refl; same-end = refl; why = refl; is-done = refl; not-failed = refl }) }
 
 pub witnesses : Witnesses
 unfolding joined
@@ -173,8 +170,8 @@ witnesses =
       empty = rw none at (short-runs [] refl (rw none (omega arith)));
       at-once = example-runs (exampleInput ∷ []) refl refl;
       in-two-parts = example-runs (take 20 exampleInput ∷ drop 20 exampleInput ∷ []) refl refl;
-      read-failed = unread;
-      write-failed = unprinted;
-      turns-used = useUp (space-lines 18446744073709551614);
-      same-text = λ a b e. run-theorem a ∙ ap modelReplayed e ∙ sym (run-theorem b);
+      same-text = same;
+      read-fails = stop start unread read-failed;
+      print-fails = stop (space-lines 0) unprinted not-printed;
+      turns-used = stop (space-lines 18446744073709551613) next-space used-up;
     }

@@ -9,13 +9,12 @@ use mathlib.Core.Path.{_≡_}
 use mathlib.Core.Bool.{Bool, true, false}
 use mathlib.Core.Logic.{_⊎_, inl, inr}
 use mathlib.Core.List.{List, [], _∷_, _++_}
+use lib.ListN.{length, take}
 use Rattle.cdi_state.specs.declared.ModuleState.{ModuleState}
 use Rattle.cdi_state.specs.State.{factoryState}
 use Rattle.replay_text.specs.Replay.{linesText}
 use Rattle.replay_text.specs.Session.{joined}
 use Rattle.replay_text.specs.Theorem.{modelReplayed}
-use Rattle.replay.specs.declared.Ending.{Ending}
-use Rattle.replay.specs.declared.Ending.the-variants.{Done, ReadFailed, WriteFailed, TurnsUsed}
 use Rattle.replay.specs.Program.{answers, Stays, ReadsOn, Turned}
 
 -- ---- the turns
@@ -43,41 +42,40 @@ unfoldable pub textOf : {n : ℕ} {state : ModuleState} {chars : List ℕ} {ende
 textOf start = []
 textOf (then {state = state} {chars = chars} turns turn) = textOf turns ++ linesText state (answers state chars)
 
--- ---- why the program ends
--- some turns and one more, the last, by whether all is done, its text is printed and its read failed
-pub data Stops : (done printed failed : Bool) → Type 0 where
-  stop : {n : ℕ} {state after : ModuleState} {chars output rest : List ℕ} {ended endedAfter done printed failed : Bool} {count : ℕ}
-      → Turns n state chars ended
-      → Turned state chars ended output after rest endedAfter done printed count failed
-      → Stops done printed failed
-
--- a run to its end: all that is read is answered and printed
-abbrev pub Run : Type 0
-Run = Stops true true false
-
--- what it reads, and all that it prints: its last turn reads nothing
-abbrev pub runReads : Run → List (List ℕ)
-runReads (stop turns last) = readsOf turns
-
-abbrev pub runText : Run → List ℕ
-runText (stop {state = state} {chars = chars} turns last) = textOf turns ++ linesText state (answers state chars)
-
--- the most turns that the loop makes, the largest u64
+-- ---- why the loop ends
+-- the most turns that it makes, the largest u64
 abbrev pub turnsMax : ℕ
 turnsMax = 18446744073709551615
 
--- the turns are used up, and not all is done
-pub data UsesUp : Type 0 where
-  useUp : {state : ModuleState} {chars : List ℕ} {ended : Bool} → Turns turnsMax state chars ended → UsesUp
+-- The ways in which a turn is the last, by its number, and whether all is done, its text is printed and its read failed: all is done, the
+-- text could not be printed, the read failed, or no further turn is counted.
+pub data Last : (n : ℕ) (done printed failed : Bool) → Type 0 where
+  is-done : {n : ℕ} → Last n true true false
+  not-printed : {n : ℕ} → Last n false false false
+  read-failed : {n : ℕ} → Last n false true true
+  used-up : Last turnsMax false true false
 
--- what is known where the program ends
-abbrev pub Ends : Ending → Type 0
-Ends Done = Run
-Ends ReadFailed = Stops false true true
-Ends WriteFailed = Stops false false false
-Ends TurnsUsed = UsesUp
+-- some turns and the last: the output buffer, and what the last turn gives
+pub data Stops : (output : List ℕ) (after : ModuleState) (rest : List ℕ) (endedAfter done printed : Bool) (count : ℕ) (failed : Bool) → Type 0 where
+  stop : {n : ℕ} {state after : ModuleState} {chars output rest : List ℕ} {ended endedAfter done printed failed : Bool} {count : ℕ}
+      → Turns n state chars ended
+      → Turned state chars ended output after rest endedAfter done printed count failed
+      → Last (suc n) done printed failed
+      → Stops output after rest endedAfter done printed count failed
 
 -- ---- what is printed
--- By a run to its end: the text that the reference model has for all that is read.
-abbrev pub RunTheorem : Type 0
-RunTheorem = (run : Run) → runText run ≡ modelReplayed (joined (runReads run))
+module _ {output : List ℕ} {after : ModuleState} {rest : List ℕ} {endedAfter : Bool} {count : ℕ} where
+  -- a run to its end: what it reads, and all that it prints; its last turn reads nothing
+  abbrev pub runReads : Stops output after rest endedAfter true true count false → List (List ℕ)
+  runReads (stop turns turn last) = readsOf turns
+
+  abbrev pub runText : Stops output after rest endedAfter true true count false → List ℕ
+  runText (stop {state = state} {chars = chars} turns turn last) = textOf turns ++ linesText state (answers state chars)
+
+pub record RunTheorem : Type 0 where
+  -- a run to its end prints the text that the reference model has for all that is read
+  pub whole : {output : List ℕ} {after : ModuleState} {rest : List ℕ} {endedAfter : Bool} {count : ℕ}
+      (run : Stops output after rest endedAfter true true count false) → runText run ≡ modelReplayed (joined (runReads run))
+  -- some turns, whatever follows them, print the front of that text
+  pub front : {n : ℕ} {state : ModuleState} {chars : List ℕ} {ended : Bool} (turns : Turns n state chars ended)
+      → take (length (textOf turns)) (modelReplayed (joined (readsOf turns))) ≡ textOf turns

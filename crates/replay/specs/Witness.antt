@@ -1,17 +1,18 @@
--- Runs that exist, and ends by failure that exist: what is claimed of them is claimed of something.
+-- Runs that exist, so that what is claimed of runs is not claimed of nothing.
 use Prim.Native.Nat.{ℕ, _-_, _≤_}
 use mathlib.Core.Path.{_≡_}
-use mathlib.Core.Bool.{true}
+use mathlib.Core.Bool.{Bool, true, false}
 use mathlib.Core.List.{List, [], _∷_, _++_}
 use lib.Dec.{ltb}
 use lib.ListN.{length, take, drop}
 use Rattle.logic.specs.Lists.{all}
+use Rattle.cdi_state.specs.declared.ModuleState.{ModuleState}
+use Rattle.cdi_state.specs.State.{factoryState}
 use Rattle.replay_text.specs.Answered.{printedMax}
 use Rattle.replay_text.specs.Session.{joined}
 use Rattle.replay_text.specs.Theorem.{modelReplayed}
-use Rattle.replay.specs.declared.Ending.the-variants.{ReadFailed, WriteFailed, TurnsUsed}
 use Rattle.replay.specs.Program.{bufferSize}
-use Rattle.replay.specs.Run.{Run, runReads, runText, Ends}
+use Rattle.replay.specs.Run.{Stops, runReads, runText}
 
 -- Document 01, "Examples": the five lines of the replay program's input, as bytes,
 --     80 55 82 01 15
@@ -41,11 +42,17 @@ exampleText =
     56 ∷ 48 ∷ 32 ∷ 53 ∷ 53 ∷ 32 ∷ 56 ∷ 51 ∷ 32 ∷ 67 ∷ 49 ∷ 32 ∷ 49 ∷ 53 ∷ 32 ∷ 48 ∷ 51 ∷ 10 ∷
     114 ∷ 101 ∷ 102 ∷ 117 ∷ 115 ∷ 101 ∷ 100 ∷ 32 ∷ 49 ∷ 48 ∷ 10 ∷ []
 
--- there is a run that reads these parts, one in each turn, and prints this text
-pub record Prints (reads : List (List ℕ)) (text : List ℕ) : Type 0 where
-  pub run : Run
-  pub as-read : runReads run ≡ reads
-  pub as-printed : runText run ≡ text
+-- a line that is not hex, and what is printed for it
+abbrev pub spaceLine : List ℕ
+spaceLine = 32 ∷ 10 ∷ []
+
+abbrev pub notHexLine : List ℕ
+notHexLine = 110 ∷ 111 ∷ 116 ∷ 32 ∷ 104 ∷ 101 ∷ 120 ∷ 10 ∷ []
+
+-- there is a run to its end that reads these parts, one in each turn, and prints this text
+pub data Prints : (reads : List (List ℕ)) (text : List ℕ) → Type 0 where
+  prints : {output rest text : List ℕ} {after : ModuleState} {endedAfter : Bool} {count : ℕ} {reads : List (List ℕ)}
+      (run : Stops output after rest endedAfter true true count false) → runReads run ≡ reads → runText run ≡ text → Prints reads text
 
 pub record Witnesses : Type 0 where
   -- a log whose text leaves room in the output buffer, read in any parts and then to its end, has a run that prints the model's text
@@ -55,11 +62,11 @@ pub record Witnesses : Type 0 where
   pub empty : Prints ([] ∷ []) []
   -- document 01's five lines print what it says, read at once, ...
   pub at-once : Prints (exampleInput ∷ [] ∷ []) exampleText
-  -- ... and in two parts, of which the first ends within the second line
+  -- ... and in two parts, the first of which ends within the second line
   pub in-two-parts : Prints (take 20 exampleInput ∷ drop 20 exampleInput ∷ [] ∷ []) exampleText
-  -- the program can end in each of the other ways
-  pub read-failed : Ends ReadFailed
-  pub write-failed : Ends WriteFailed
-  pub turns-used : Ends TurnsUsed
-  -- two runs that read the same input print the same text
-  pub same-text : (a b : Run) → joined (runReads a) ≡ joined (runReads b) → runText a ≡ runText b
+  -- runs that read the same input print the same text
+  pub same-text : {reads others : List (List ℕ)} {text other : List ℕ} → Prints reads text → Prints others other → joined reads ≡ joined others → text ≡ other
+  -- the loop can end in each of the other ways: the first read fails, a line is read and can't be answered, or such lines use up the turns
+  pub read-fails : Stops [] factoryState [] false false true 0 true
+  pub print-fails : Stops notHexLine factoryState [] false false false 0 false
+  pub turns-used : Stops notHexLine factoryState spaceLine false false true 2 false

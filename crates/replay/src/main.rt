@@ -9,7 +9,7 @@ ghost use lib.ListN.{length, take, drop};
 ghost use Rattle.replay_text.specs.Session.{keptMax, keptOf};
 ghost use Rattle.logic.specs.Lists.{between};
 ghost use Rattle.replay.specs.Program.{bufferSize, isEnd, charsAfter, Refilled, Turned};
-ghost use Rattle.replay.specs.Run.{Ends};
+ghost use Rattle.replay.specs.Run.{Stops};
 use cdi_state::ModuleState;
 use hex_text::LINE_FEED;
 use hex_text::LINE_MAX;
@@ -46,14 +46,6 @@ struct Session {
     printed: bool,
     count: usize,
     failed: bool,
-}
-
-// Why the program ends.
-enum Ending {
-    Done,
-    ReadFailed,
-    WriteFailed,
-    TurnsUsed,
 }
 
 // Moves input[from..end] to the front, as much of it as has to be kept, and returns how much that is.
@@ -167,10 +159,12 @@ fn turn(session: Session, input: &mut [u8], output: &mut [u8]) -> Session
     }
 }
 
-// A proved loop has to end, and nothing says that the input does. So the turns are counted down, from a number that no run uses up.
-fn replay(input: &mut [u8], output: &mut [u8]) -> Ending
+// Turn after turn, until all is done, a print or a read fails, or the turns are used up, and returns what the last gave. A proved loop
+// has to end, and nothing says that the input does: so the turns are counted down, from a number that no run uses up.
+fn replay(input: &mut [u8], output: &mut [u8]) -> Session
     requires { ⌜ (length (now input) ≡ bufferSize) × (length (now output) ≡ bufferSize) ⌝ }
-    ensures { λ r. ⌜ Ends r ⌝ }
+    ensures { λ r. ⌜ Stops (now (output .exit)) (r .state) (between (r .start) (r .end) (now (input .exit))) (r .ended)
+        (r .done) (r .printed) (r .count) (r .failed) ⌝ }
 {
     let mut session = Session {
         state: ModuleState::factory(),
@@ -183,42 +177,40 @@ fn replay(input: &mut [u8], output: &mut [u8]) -> Ending
         failed: false,
     };
     let mut turns = u64::MAX;
-    while turns > 0 {
+    loop {
         session = turn(session, input, output);
+        turns -= 1;
         let done = session.done;
         let printed = session.printed;
         let failed = session.failed;
-        if done {
-            return Ending::Done;
+        if done | !printed | failed | (turns == 0) {
+            return session;
         }
-        if !printed {
-            return Ending::WriteFailed;
-        }
-        if failed {
-            return Ending::ReadFailed;
-        }
-        turns -= 1;
     }
-    Ending::TurnsUsed
 }
 
-// Says on standard error why the program ends before all is done. `os::fail` adds the reason that the failed call left.
-fn report(ending: Ending) {
-    match ending {
-        Ending::Done => {}
-        Ending::ReadFailed => os::fail(b"replay: standard input cannot be read"),
-        Ending::WriteFailed => os::fail(b"replay: standard output cannot be written"),
-        Ending::TurnsUsed => {
-            io::write_all(
-                STDERR_FILENO,
-                b"replay: stopped after 18446744073709551615 turns, with input left\n",
-            );
-        }
+// Says on standard error why the last turn is the last, but where all is done. `os::fail` adds the reason that the failed call left.
+fn report(done: bool, printed: bool, failed: bool) {
+    if done {
+        return;
     }
+    if !printed {
+        os::fail(b"replay: standard output cannot be written");
+        return;
+    }
+    if failed {
+        os::fail(b"replay: standard input cannot be read");
+        return;
+    }
+    io::write_all(
+        STDERR_FILENO,
+        b"replay: stopped after 18446744073709551615 turns, with input left\n",
+    );
 }
 
 fn main() {
     let mut input = io::large_buffer();
     let mut output = io::large_buffer();
-    report(replay(&mut input, &mut output));
+    let last = replay(&mut input, &mut output);
+    report(last.done, last.printed, last.failed);
 }
