@@ -12,6 +12,7 @@ use lib.ListN.{length, take}
 use lib.Seq.{take-at}
 use Rattle.logic.proofs.Choice.{by-cases}
 use Rattle.cdi_state.specs.declared.ModuleState.{ModuleState}
+use Rattle.cdi_state.specs.State.{factoryState}
 use Rattle.replay_text.specs.Replay.{lines, linesText, linesState, replayedFrom}
 use Rattle.replay_text.specs.Answered.{hasLineFeed, unfinished}
 use Rattle.replay_text.specs.Session.{keptMax, keptOf, lastLine, joined}
@@ -19,47 +20,53 @@ use Rattle.replay_text.specs.Theorem.{modelReplayed}
 use Rattle.replay_text.proofs.Lines.{unfinished-has-none, last-line-finished}
 use Rattle.replay_text.proofs.Laws.{pieces, pieces-then, unfinished-kept, last-line, none-taken, kept-enough}
 use Rattle.replay_text.proofs.Theorem.{replay-theorem}
-use Rattle.replay.specs.Program.{bufferSize, isEnd, charsAfter, answers, leftBehind, Stays, ReadsOn}
+use Rattle.replay.specs.Program.{bufferSize, isEnd, charsAfter, answers, leftAfter, Stays, ReadsOn}
 use Rattle.replay.proofs.Left.{not-finished, at-last}
-use Rattle.cdi_state.specs.State.{factoryState}
-use Rattle.replay.specs.Run.{Turns, start, then, charsRead, readsOf, textOf, Stops, stop, runReads, runText, RunTheorem}
+use Rattle.replay.specs.Run.{Turns, start, then, charsRead, readsOf, textOf, used-up, Stops, stop, runReads, runText, RunTheorem}
 
 -- where the input has ended, what is there are whole lines
 abbrev Finished : Bool → List ℕ → Type 0
 Finished ended chars = ended ≡ true → unfinished chars ≡ []
 
 -- ---- one turn
--- the last turn prints all that is there
-last-text : (s : ModuleState) (chars rest : List ℕ) (ended endedAfter : Bool) (count : ℕ)
-    → Stays s chars ended rest endedAfter true true false ⊎ ReadsOn s chars ended rest endedAfter true true count false → Finished ended chars
-    → linesText s (answers s chars) ≡ replayedFrom s (chars ++ [])
-unfolding lines linesText
-last-text s chars rest ended endedAfter count (inr reads) finished = absurd (false≢true (sym (reads .not-done)))
-last-text s chars rest ended endedAfter count (inl stays) finished =
-    let at = at-last s chars rest ended endedAfter stays in
-    let none : leftBehind s chars ≡ [] = at .1 ∙ finished (at .0) in
-    rw append-nil (sym (pieces s chars bufferSize .0 ∙ rw none (append-nil _)))
+-- the turn after which all is done
+module _ (s : ModuleState) (chars rest : List ℕ) (ended endedAfter : Bool) (count : ℕ) where
+  abbrev Done : Type 0
+  Done = Stays s chars ended rest endedAfter true true false ⊎ ReadsOn s chars ended rest endedAfter true true count false
+
+  -- the input has ended, and nothing is left
+  done-left : Done → Finished ended chars → (endedAfter ≡ true) × (rest ≡ []) × (leftAfter s chars ≡ [])
+  done-left (inr reads) finished = absurd (false≢true (sym (reads .not-done)))
+  done-left (inl stays) finished =
+      let at = at-last s chars rest ended endedAfter stays in
+      let none = at .1 ∙ finished (at .0) in
+      (stays .same-end ∙ at .0, stays .same ∙ none, none)
+
+  -- so it prints all that is there
+  done-text : Done → Finished ended chars → linesText s (answers s chars) ≡ replayedFrom s (chars ++ [])
+  unfolding lines linesText
+  done-text left finished = rw append-nil (sym (pieces s chars bufferSize .0 ∙ rw (done-left left finished .2) (append-nil _)))
 
 module _ (s after : ModuleState) (chars : List ℕ) (state-after : after ≡ linesState s (answers s chars)) where
   -- what is left, and what follows it, continue to the text
-  left-text : (later : List ℕ) → linesText s (answers s chars) ++ replayedFrom after (leftBehind s chars ++ later) ≡ replayedFrom s (chars ++ later)
+  left-text : (later : List ℕ) → linesText s (answers s chars) ++ replayedFrom after (leftAfter s chars ++ later) ≡ replayedFrom s (chars ++ later)
   left-text later = rw state-after (sym (pieces-then s chars bufferSize later .0))
 
-  module _ (left : leftBehind s chars ≡ unfinished chars) where
-    part-of-line : hasLineFeed (leftBehind s chars) ≡ false
+  module _ (left : leftAfter s chars ≡ unfinished chars) where
+    part-of-line : hasLineFeed (leftAfter s chars) ≡ false
     part-of-line = rw left (unfinished-has-none chars)
 
     -- so does what is kept of a line that is not finished
-    kept-text : (later : List ℕ) → linesText s (answers s chars) ++ replayedFrom after (keptOf (leftBehind s chars) ++ later) ≡ replayedFrom s (chars ++ later)
+    kept-text : (later : List ℕ) → linesText s (answers s chars) ++ replayedFrom after (keptOf (leftAfter s chars) ++ later) ≡ replayedFrom s (chars ++ later)
     kept-text later =
-        ap (λ (t : List ℕ). linesText s (answers s chars) ++ t) (sym (kept-enough after (leftBehind s chars) later part-of-line .0)) ∙ left-text later
+        ap (λ (t : List ℕ). linesText s (answers s chars) ++ t) (sym (kept-enough after (leftAfter s chars) later part-of-line .0)) ∙ left-text later
 
-    kept-part : hasLineFeed (keptOf (leftBehind s chars)) ≡ false
-    kept-part = none-taken keptMax (leftBehind s chars) part-of-line
+    kept-part : hasLineFeed (keptOf (leftAfter s chars)) ≡ false
+    kept-part = none-taken keptMax (leftAfter s chars) part-of-line
 
     -- and so does the last line
-    last-line-text : linesText s (answers s chars) ++ replayedFrom after (lastLine (keptOf (leftBehind s chars)) ++ []) ≡ replayedFrom s (chars ++ [])
-    last-line-text = simp append-nil (rw (last-line after (keptOf (leftBehind s chars)) kept-part .0) (simp append-nil at (kept-text [])))
+    last-line-text : linesText s (answers s chars) ++ replayedFrom after (lastLine (keptOf (leftAfter s chars)) ++ []) ≡ replayedFrom s (chars ++ [])
+    last-line-text = simp append-nil (rw (last-line after (keptOf (leftAfter s chars)) kept-part .0) (simp append-nil at (kept-text [])))
 
 -- at the end of the input a read gives nothing
 none-given : (given : List ℕ) (count : ℕ) → length given ≡ count → isEnd count false ≡ true → given ≡ []
@@ -81,9 +88,9 @@ module _ (s : ModuleState) (chars rest : List ℕ) (ended endedAfter : Bool) (co
     next-finished (inl stays) finished e =
         ap unfinished (stays .same) ∙ unfinished-kept s chars bufferSize ∙ finished (sym (stays .same-end) ∙ e)
     next-finished (inr reads) finished e =
-        let kept = keptOf (leftBehind s chars) in
+        let kept = keptOf (leftAfter s chars) in
         let part = kept-part s after chars state-after (not-finished s chars (reads .not-full)) in
-        let line : rest ≡ lastLine kept = reads .refilled .taken ∙ ap (charsAfter kept (reads .refilled .given)) (sym (reads .end-told) ∙ e) in
+        let line : rest ≡ lastLine kept = reads .refilled .taken ∙ ap (charsAfter kept (reads .refilled .given)) (sym (reads .end-known) ∙ e) in
         ap unfinished line ∙ last-line-finished kept part
 
     -- what it prints and what is there after it continue to the text, with what it read and whatever is read later
@@ -91,18 +98,18 @@ module _ (s : ModuleState) (chars rest : List ℕ) (ended endedAfter : Bool) (co
         → linesText s (answers s chars) ++ replayedFrom after (rest ++ later) ≡ replayedFrom s (chars ++ (charsRead left ++ later))
     next-text (inl stays) later none = rw (stays .same) (left-text s after chars state-after later)
     next-text (inr reads) later none =
-        let kept = keptOf (leftBehind s chars) in
+        let kept = keptOf (leftAfter s chars) in
         let given = reads .refilled .given in
-        let behind = not-finished s chars (reads .not-full) in
-        let taken : rest ≡ charsAfter kept given endedAfter = reads .refilled .taken ∙ ap (charsAfter kept given) (sym (reads .end-told)) in
+        let part = not-finished s chars (reads .not-full) in
+        let taken : rest ≡ charsAfter kept given endedAfter = reads .refilled .taken ∙ ap (charsAfter kept given) (sym (reads .end-known)) in
         by-cases endedAfter
         (λ t.
-        let nothing : given ≡ [] = none-given given count (reads .refilled .as-told) (sym (reads .end-told) ∙ t) in
+        let nothing : given ≡ [] = none-given given count (reads .refilled .as-counted) (sym (reads .end-known) ∙ t) in
         let line : rest ≡ lastLine kept = taken ∙ rw t in
-        rw (nothing, line, none t) (last-line-text s after chars state-after behind))
+        rw (nothing, line, none t) (last-line-text s after chars state-after part))
         (λ f.
         let split : rest ≡ kept ++ given = taken ∙ rw f in
-        rw (split, append-assoc kept given later) (kept-text s after chars state-after behind (given ++ later)))
+        rw (split, append-assoc kept given later) (kept-text s after chars state-after part (given ++ later)))
 
 -- ---- the turns one after the other
 turns-finished : {n : ℕ} {s : ModuleState} {chars : List ℕ} {ended : Bool} → Turns n s chars ended → Finished ended chars
@@ -116,7 +123,7 @@ unfolding joined
 joined-one [] more later = rw append-nil
 joined-one (read ∷ reads) more later = append-assoc read _ later ∙ ap (λ (l : List ℕ). read ++ l) (joined-one reads more later) ∙ sym (append-assoc read _ _)
 
-pub turns-text : {n : ℕ} {s : ModuleState} {chars : List ℕ} {ended : Bool} (turns : Turns n s chars ended) (later : List ℕ) → (ended ≡ true → later ≡ [])
+turns-text : {n : ℕ} {s : ModuleState} {chars : List ℕ} {ended : Bool} (turns : Turns n s chars ended) (later : List ℕ) → (ended ≡ true → later ≡ [])
     → textOf turns ++ replayedFrom s (chars ++ later) ≡ replayedFrom factoryState (joined (readsOf turns) ++ later)
 unfolding readsOf textOf joined
 turns-text start later none = refl
@@ -134,11 +141,19 @@ so-far turns = turns-text turns [] (λ e. refl) ∙ rw append-nil (replay-theore
 whole-text : {output : List ℕ} {after : ModuleState} {rest : List ℕ} {endedAfter : Bool} {count : ℕ}
     (run : Stops output after rest endedAfter true true count false) → runText run ≡ modelReplayed (joined (runReads run))
 whole-text (stop turns turn last) =
-    ap (λ (t : List ℕ). textOf turns ++ t) (last-text _ _ _ _ _ _ (turn .left) (turns-finished turns)) ∙ so-far turns
+    ap (λ (t : List ℕ). textOf turns ++ t) (done-text _ _ _ _ _ _ (turn .left) (turns-finished turns)) ∙ so-far turns
 
 front-text : {n : ℕ} {s : ModuleState} {chars : List ℕ} {ended : Bool} (turns : Turns n s chars ended)
     → take (length (textOf turns)) (modelReplayed (joined (readsOf turns))) ≡ textOf turns
 front-text {s = s} {chars = chars} turns = rw (← so-far turns) (take-at (textOf turns) (replayedFrom s (chars ++ [])) (length (textOf turns)) refl)
 
+none-left : {output : List ℕ} {after : ModuleState} {rest : List ℕ} {endedAfter : Bool} {count : ℕ}
+    → Stops output after rest endedAfter true true count false → (endedAfter ≡ true) × (rest ≡ [])
+none-left (stop turns turn last) = let known = done-left _ _ _ _ _ _ (turn .left) (turns-finished turns) in (known .0, known .1)
+
+all-made : {output : List ℕ} {after : ModuleState} {rest : List ℕ} {endedAfter : Bool} {count : ℕ}
+    → Stops output after rest endedAfter false true count false → Turns 18446744073709551615 after rest endedAfter
+all-made (stop turns turn used-up) = then turns turn
+
 pub run-theorem : RunTheorem
-run-theorem = record { whole = whole-text; front = front-text }
+run-theorem = record { whole = whole-text; nothing-left = none-left; all-turns = all-made; front = front-text }

@@ -22,7 +22,7 @@ use Rattle.replay_text.specs.Theorem.{modelReplayed}
 use Rattle.replay_text.proofs.Laws.{pieces-then}
 use Rattle.replay_text.proofs.Theorem.{replay-theorem}
 use Rattle.replay_text.proofs.Examples.{example-by-model, shortest-inputs}
-use Rattle.replay.specs.Program.{bufferSize, isEnd, charsAfter, answers, leftBehind, isFull, Turned}
+use Rattle.replay.specs.Program.{bufferSize, isEnd, charsAfter, answers, leftAfter, isFull, Turned}
 use Rattle.replay.specs.Run.{Turns, start, then, readsOf, is-done, not-printed, read-failed, used-up, Stops, stop, runReads}
 use Rattle.replay.specs.Witness.{exampleInput, exampleText, spaceLine, notHexLine, Prints, prints, Witnesses}
 use Rattle.replay.proofs.Turns.{both}
@@ -47,7 +47,7 @@ module _ (s : ModuleState) (chars : List ℕ) (room : isFull s chars ≡ false) 
   after = linesState s (answers s chars)
 
   reads-on : (given : List ℕ) (ended : Bool) → isEnd (length given) false ≡ ended
-      → Turned s chars false (linesText s (answers s chars)) after (charsAfter (keptOf (leftBehind s chars)) given ended) ended false true (length given) false
+      → Turned s chars false (linesText s (answers s chars)) after (charsAfter (keptOf (leftAfter s chars)) given ended) ended false true (length given) false
   reads-on given ended e =
       record {
         text = front _;
@@ -56,13 +56,13 @@ module _ (s : ModuleState) (chars : List ℕ) (room : isFull s chars ≡ false) 
           is-printed = refl;
           not-full = room;
           not-ended = refl;
-          refilled = record { given = given; as-told = refl; taken = ap (charsAfter (keptOf (leftBehind s chars)) given) (sym e) };
-          end-told = sym e;
+          refilled = record { given = given; as-counted = refl; taken = ap (charsAfter (keptOf (leftAfter s chars)) given) (sym e) };
+          end-known = sym e;
           not-done = refl;
         });
       }
 
-  ends-here : Turned s chars true (linesText s (answers s chars)) after (leftBehind s chars) true true true 0 false
+  ends-here : Turned s chars true (linesText s (answers s chars)) after (leftAfter s chars) true true true 0 false
   ends-here =
       record {
         text = front _;
@@ -80,7 +80,7 @@ run-on : {n : ℕ} {s : ModuleState} {chars : List ℕ} (turns : Turns n s chars
 unfolding readsOf joined reads-on
 run-on {s = s} {chars = chars} turns [] some short =
     let turn = reads-on s chars (room-left s chars [] short) [] true refl in
-    let line = lastLine (keptOf (leftBehind s chars)) in
+    let line = lastLine (keptOf (leftAfter s chars)) in
     let next = linesState s (answers s chars) in
     let text = next-text s chars line false true 0 next refl (turn .left) [] (λ e. refl) in
     let room = room-left next line [] (omega (arith, longer (linesText s (answers s chars)) (replayedFrom next (line ++ [])) (replayedFrom s (chars ++ [])) text)) in
@@ -88,7 +88,7 @@ run-on {s = s} {chars = chars} turns [] some short =
 run-on {s = s} {chars = chars} turns (part ∷ parts) some short =
     let each = both (ltb 0 (length part)) (all (λ p. ltb 0 (length p)) parts) some in
     let turn = reads-on s chars (room-left s chars (part ++ joined parts) short) part false (rw (each .0)) in
-    let there = keptOf (leftBehind s chars) ++ part in
+    let there = keptOf (leftAfter s chars) ++ part in
     let next = linesState s (answers s chars) in
     let text = next-text s chars there false false (length part) next refl (turn .left) (joined parts) (λ e. absurd (false≢true e)) in
     let short-rest = longer (linesText s (answers s chars)) (replayedFrom next (there ++ joined parts)) (replayedFrom s (chars ++ (part ++ joined parts))) text in
@@ -150,8 +150,8 @@ unread =
         is-printed = refl;
         not-full = nothing-there;
         not-ended = refl;
-        refilled = record { given = []; as-told = refl; taken = refl };
-        end-told = refl;
+        refilled = record { given = []; as-counted = refl; taken = refl };
+        end-known = refl;
         not-done = refl;
       });
     }

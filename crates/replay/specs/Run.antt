@@ -1,9 +1,11 @@
--- What the program does from its start to its end: the turns that the loop in `replay` runs, why it ends, and what is printed by then.
--- Each turn is what the contract of `turn` says, by what its print and its read answered, and the contract of `replay` says that it ends
--- by such turns. A contract can't say what a call of C reads or writes, so these lie outside it and are tested instead: that `print`
--- is handed the text, once and before more is read, and that `printed` is its answer; that `count` and `failed` are the read's answer, and
--- what it gave is left as it is; that `main` calls `replay`, and `report` writes its message to standard error; and what the C library reads
--- and writes.
+-- A whole run of the program: the turns that the loop in `replay` makes, why it ends, and what is printed by then. The contract of
+-- `replay` says that the session that it returns, and both buffers, are those after such turns.
+--
+-- No contract can say what a call of C reads or writes, so the following is outside the proof and is tested instead:
+-- - `print` writes the front of the output buffer to standard output, once and before more is read, and `printed` is its result;
+-- - `read_input` reads standard input, `count` and `failed` are the result, and the characters given are those read;
+-- - `main` calls `replay` once, and `report` writes the reason to standard error if not all is done;
+-- - what the C library and the system do in these calls.
 use Prim.Native.Nat.{ℕ, suc}
 use mathlib.Core.Path.{_≡_}
 use mathlib.Core.Bool.{Bool, true, false}
@@ -18,8 +20,8 @@ use Rattle.replay_text.specs.Theorem.{modelReplayed}
 use Rattle.replay.specs.Program.{answers, Stays, ReadsOn, Turned}
 
 -- ---- the turns
--- As many turns as the number says, one after the other, from the factory state with nothing read. All is printed, no read failed, and
--- none of them is the last. The state, the characters that are not answered and whether the input has ended are those after them.
+-- A number of turns, one after the other, from the factory state with nothing read, to a state, the characters that are not answered, and
+-- whether the input has ended. No print and no read failed, and after none of them all was done.
 pub data Turns : ℕ → ModuleState → List ℕ → Bool → Type 0 where
   start : Turns 0 factoryState [] false
   then : {n : ℕ} {state after : ModuleState} {chars output rest : List ℕ} {ended endedAfter : Bool} {count : ℕ}
@@ -33,7 +35,7 @@ abbrev pub charsRead : {state : ModuleState} {chars rest : List ℕ} {ended ende
 charsRead (inl stays) = []
 charsRead (inr reads) = reads .refilled .given
 
--- what some turns read, one part of the input for each, and all that they print
+-- what some turns read, one part of the input for each turn, and all that they print
 unfoldable pub readsOf : {n : ℕ} {state : ModuleState} {chars : List ℕ} {ended : Bool} → Turns n state chars ended → List (List ℕ)
 readsOf start = []
 readsOf (then turns turn) = readsOf turns ++ charsRead (turn .left) ∷ []
@@ -43,19 +45,19 @@ textOf start = []
 textOf (then {state = state} {chars = chars} turns turn) = textOf turns ++ linesText state (answers state chars)
 
 -- ---- why the loop ends
--- the most turns that it makes, the largest u64
+-- the most turns that the loop makes: the largest u64
 abbrev pub turnsMax : ℕ
 turnsMax = 18446744073709551615
 
--- The ways in which a turn is the last, by its number, and whether all is done, its text is printed and its read failed: all is done, the
--- text could not be printed, the read failed, or no further turn is counted.
+-- The four reasons why a turn is the last, by the number of turns so far and by what the turn returns: all is done, the text could not be
+-- printed, the read failed, or the turns are used up.
 pub data Last : (n : ℕ) (done printed failed : Bool) → Type 0 where
   is-done : {n : ℕ} → Last n true true false
   not-printed : {n : ℕ} → Last n false false false
   read-failed : {n : ℕ} → Last n false true true
   used-up : Last turnsMax false true false
 
--- some turns and the last: the output buffer, and what the last turn gives
+-- some turns and the last one, with the output buffer, the session and the characters that it leaves
 pub data Stops : (output : List ℕ) (after : ModuleState) (rest : List ℕ) (endedAfter done printed : Bool) (count : ℕ) (failed : Bool) → Type 0 where
   stop : {n : ℕ} {state after : ModuleState} {chars output rest : List ℕ} {ended endedAfter done printed failed : Bool} {count : ℕ}
       → Turns n state chars ended
@@ -65,7 +67,7 @@ pub data Stops : (output : List ℕ) (after : ModuleState) (rest : List ℕ) (en
 
 -- ---- what is printed
 module _ {output : List ℕ} {after : ModuleState} {rest : List ℕ} {endedAfter : Bool} {count : ℕ} where
-  -- a run to its end: what it reads, and all that it prints; its last turn reads nothing
+  -- if all is done: what the turns read, and all that they print; the last one reads nothing
   abbrev pub runReads : Stops output after rest endedAfter true true count false → List (List ℕ)
   runReads (stop turns turn last) = readsOf turns
 
@@ -73,9 +75,15 @@ module _ {output : List ℕ} {after : ModuleState} {rest : List ℕ} {endedAfter
   runText (stop {state = state} {chars = chars} turns turn last) = textOf turns ++ linesText state (answers state chars)
 
 pub record RunTheorem : Type 0 where
-  -- a run to its end prints the text that the reference model has for all that is read
+  -- if all is done, what is printed is the reference model's text for all that is read
   pub whole : {output : List ℕ} {after : ModuleState} {rest : List ℕ} {endedAfter : Bool} {count : ℕ}
       (run : Stops output after rest endedAfter true true count false) → runText run ≡ modelReplayed (joined (runReads run))
-  -- some turns, whatever follows them, print the front of that text
+  -- and the input has ended, and nothing is left to be answered
+  pub nothing-left : {output : List ℕ} {after : ModuleState} {rest : List ℕ} {endedAfter : Bool} {count : ℕ}
+      → Stops output after rest endedAfter true true count false → (endedAfter ≡ true) × (rest ≡ [])
+  -- if not all is done, and no print and no read failed, this many turns were made
+  pub all-turns : {output : List ℕ} {after : ModuleState} {rest : List ℕ} {endedAfter : Bool} {count : ℕ}
+      → Stops output after rest endedAfter false true count false → Turns 18446744073709551615 after rest endedAfter
+  -- at any time, what is printed is the front of the model's text for what is read
   pub front : {n : ℕ} {state : ModuleState} {chars : List ℕ} {ended : Bool} (turns : Turns n state chars ended)
       → take (length (textOf turns)) (modelReplayed (joined (readsOf turns))) ≡ textOf turns

@@ -1,4 +1,4 @@
--- Runs that exist, so that what is claimed of runs is not claimed of nothing.
+-- Examples of runs, which show that the premises of the run theorem can be met.
 use Prim.Native.Nat.{ℕ, _-_, _≤_}
 use mathlib.Core.Path.{_≡_}
 use mathlib.Core.Bool.{Bool, true, false}
@@ -49,24 +49,26 @@ spaceLine = 32 ∷ 10 ∷ []
 abbrev pub notHexLine : List ℕ
 notHexLine = 110 ∷ 111 ∷ 116 ∷ 32 ∷ 104 ∷ 101 ∷ 120 ∷ 10 ∷ []
 
--- there is a run to its end that reads these parts, one in each turn, and prints this text
+-- there is a run that ends with all done, reads these parts, one in each turn, and prints this text
 pub data Prints : (reads : List (List ℕ)) (text : List ℕ) → Type 0 where
   prints : {output rest text : List ℕ} {after : ModuleState} {endedAfter : Bool} {count : ℕ} {reads : List (List ℕ)}
       (run : Stops output after rest endedAfter true true count false) → runReads run ≡ reads → runText run ≡ text → Prints reads text
 
 pub record Witnesses : Type 0 where
-  -- a log whose text leaves room in the output buffer, read in any parts and then to its end, has a run that prints the model's text
+  -- every log whose text leaves room for one more line in the output buffer, read in any parts and then to its end, has a run that prints
+  -- the model's text
   pub short-logs : (parts : List (List ℕ)) → all (λ part. ltb 0 (length part)) parts ≡ true → length (modelReplayed (joined parts)) ≤ bufferSize - printedMax
       → Prints (parts ++ [] ∷ []) (modelReplayed (joined parts))
   -- the empty log prints nothing
   pub empty : Prints ([] ∷ []) []
-  -- document 01's five lines print what it says, read at once, ...
+  -- document 01's five lines, read at once, print its text
   pub at-once : Prints (exampleInput ∷ [] ∷ []) exampleText
-  -- ... and in two parts, the first of which ends within the second line
+  -- and so they do if they are read in two parts, the first of which ends within the second line
   pub in-two-parts : Prints (take 20 exampleInput ∷ drop 20 exampleInput ∷ [] ∷ []) exampleText
-  -- runs that read the same input print the same text
+  -- two runs that read the same input, in whatever parts, print the same text
   pub same-text : {reads others : List (List ℕ)} {text other : List ℕ} → Prints reads text → Prints others other → joined reads ≡ joined others → text ≡ other
-  -- the loop can end in each of the other ways: the first read fails, a line is read and can't be answered, or such lines use up the turns
+  -- the loop can end for each of the other reasons: the first read fails, the text of a line can't be printed, or such lines use up the
+  -- turns
   pub read-fails : Stops [] factoryState [] false false true 0 true
   pub print-fails : Stops notHexLine factoryState [] false false false 0 false
   pub turns-used : Stops notHexLine factoryState spaceLine false false true 2 false

@@ -1,4 +1,4 @@
--- `replay::read_input` meets its contract: only the part behind the first `kept` bytes is read into.
+-- `replay::read_input` meets its contract: only the part after the first `kept` bytes is read into.
 -- Assumes nothing.
 use Prim.Native.Nat.{_-_}
 use borrow.Author.Needs.{needs}
