@@ -1,4 +1,4 @@
--- One turn more after a chain of turns: it is the next of them, or the program ends by it.
+-- One more turn after some turns: the loop goes on, or it ends for one of its reasons.
 -- Assumes nothing.
 use Prim.Native.Nat.{ℕ, suc, _<_}
 use mathlib.Core.Path.{_≡_, refl, sym, _∙_}
@@ -17,22 +17,26 @@ pub both : (a b : Bool) → a && b ≡ true → (a ≡ true) × (b ≡ true)
 both true b e = (refl, e)
 both false b e = (e, cc)
 
+-- the test by which the loop ends, with the number of turns that are left
+abbrev pub ends : (done printed failed : Bool) (left : ℕ) → Bool
+ends done printed failed left = ((done || not printed) || failed) || eqb left 0
+
 module _ (state : ModuleState) (chars rest : List ℕ) (ended endedAfter done printed failed : Bool) (count : ℕ) where
   abbrev Left : Type 0
   Left = Stays state chars ended rest endedAfter done printed failed ⊎ ReadsOn state chars ended rest endedAfter done printed count failed
 
-  -- what is done is printed, and no read failed
+  -- if all is done, the text is printed and no read failed
   when-done : Left → done ≡ true → (printed ≡ true) × (failed ≡ false)
   when-done (inl stays) d = (both printed (not (isFull state chars)) (sym (stays .is-done) ∙ d) .0, stays .not-failed)
   when-done (inr reads) d = absurd (false≢true (sym (reads .not-done) ∙ d))
 
-  -- where nothing could be printed, not all is done and nothing is read
+  -- if the text could not be printed, not all is done and no read failed
   when-unprinted : Left → printed ≡ false → (done ≡ false) × (failed ≡ false)
   when-unprinted (inl stays) p = (stays .is-done ∙ rw p, stays .not-failed)
   when-unprinted (inr reads) p = absurd (false≢true (sym p ∙ reads .is-printed))
 
-  -- a turn that the loop leaves by its test is the last in one of the four ways
-  is-last : (n turns : ℕ) → Left → ((done || not printed) || failed) || eqb turns 0 ≡ true → (turns ≡ 0 → n ≡ turnsMax) → Last n done printed failed
+  -- a turn after which the loop ends is the last for one of the four reasons
+  is-last : (n turns : ℕ) → Left → ends done printed failed turns ≡ true → (turns ≡ 0 → n ≡ turnsMax) → Last n done printed failed
   is-last n turns left test used =
       by-cases done (λ d. let known = when-done left d in rw (d, known .0, known .1) is-done)
       (λ d.
@@ -41,9 +45,8 @@ module _ (state : ModuleState) (chars rest : List ℕ) (ended endedAfter done pr
       by-cases failed (λ f. rw (d, p, f) read-failed) (λ f. rw (d, p, f, used (eqb-true turns 0 (rw (d, p, f) at test))) used-up))
       (λ p. let known = when-unprinted left p in rw (d, p, known .1) not-printed))
 
-  -- and one that it goes on from is not
-  is-next : (turns : ℕ) → ((done || not printed) || failed) || eqb turns 0 ≡ false
-      → (done ≡ false) × (printed ≡ true) × (failed ≡ false) × (0 < turns)
+  -- after any other turn, not all is done, nothing failed, and turns are left
+  is-next : (turns : ℕ) → ends done printed failed turns ≡ false → (done ≡ false) × (printed ≡ true) × (failed ≡ false) × (0 < turns)
   is-next turns test =
       let first = neither ((done || not printed) || failed) (eqb turns 0) test in
       let second = neither (done || not printed) failed (first .0) in
@@ -53,10 +56,10 @@ module _ (state : ModuleState) (chars rest : List ℕ) (ended endedAfter done pr
 
 module _ {n count : ℕ} {state after : ModuleState} {chars output rest : List ℕ} {ended endedAfter done printed failed : Bool} (left : ℕ)
     (turns : Turns n state chars ended) (turn : Turned state chars ended output after rest endedAfter done printed count failed) where
-  pub stops : ((done || not printed) || failed) || eqb left 0 ≡ true → (left ≡ 0 → suc n ≡ turnsMax) → Stops output after rest endedAfter done printed count failed
+  pub stops : ends done printed failed left ≡ true → (left ≡ 0 → suc n ≡ turnsMax) → Stops output after rest endedAfter done printed count failed
   stops test used = stop turns turn (is-last _ _ _ _ _ _ _ _ _ (suc n) left (turn .left) test used)
 
-  pub goes-on : ((done || not printed) || failed) || eqb left 0 ≡ false → (0 < left) × Turns (suc n) after rest endedAfter
+  pub goes-on : ends done printed failed left ≡ false → (0 < left) × Turns (suc n) after rest endedAfter
   goes-on test =
       let known = is-next state chars rest ended endedAfter done printed failed count left test in
       (known .3, then turns (rw (known .0, known .1, known .2) at turn))

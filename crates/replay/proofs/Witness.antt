@@ -1,4 +1,4 @@
--- Runs that exist: where the text of all that is read leaves room in the output buffer, each turn answers all that is there and reads on.
+-- Runs exist: if the text of all that is read leaves room in the output buffer, each turn answers all that is there and reads on.
 -- Assumes nothing.
 use Prim.Native.Nat.{ℕ, zero, suc, _+_, _-_, _≤_}
 use mathlib.Core.Path.{_≡_, refl, sym, ap, _∙_}
@@ -16,7 +16,7 @@ use Rattle.response_text.specs.Text.{hexText}
 use Rattle.cdi_state.specs.declared.ModuleState.{ModuleState}
 use Rattle.cdi_state.specs.State.{factoryState}
 use Rattle.replay_text.specs.Replay.{lines, linesText, linesState, replayedFrom}
-use Rattle.replay_text.specs.Answered.{printedMax, wholePart, unfinished, withLineFeeds, fitting}
+use Rattle.replay_text.specs.Answered.{printedMax, wholePart, withLineFeeds, fitting}
 use Rattle.replay_text.specs.Session.{keptOf, lastLine, joined}
 use Rattle.replay_text.specs.Theorem.{modelReplayed}
 use Rattle.replay_text.proofs.Laws.{pieces-then}
@@ -28,20 +28,20 @@ use Rattle.replay.specs.Witness.{exampleInput, exampleText, spaceLine, n
 use Rattle.replay.proofs.Turns.{both}
 use Rattle.replay.proofs.Runs.{next-text, joined-one, run-theorem}
 
--- a text is at least as long as what it begins with
-longer : (a b c : List ℕ) → a ++ b ≡ c → length a + length b ≡ length c
-longer a b c e = sym (length-append a b) ∙ ap length e
+-- a text is as long as its two parts
+sizes : (a b c : List ℕ) → a ++ b ≡ c → length a + length b ≡ length c
+sizes a b c e = sym (length-append a b) ∙ ap length e
 
--- where the text of what is there, and of whatever follows, is short, a line more fits
+-- if the text of what is there, and of whatever follows, is short, one more line fits
 room-left : (s : ModuleState) (chars later : List ℕ) → length (replayedFrom s (chars ++ later)) ≤ bufferSize - printedMax → isFull s chars ≡ false
 room-left s chars later short =
     let text = linesText s (answers s chars) in
-    le-ltb (bufferSize - length text) printedMax (omega (arith, longer text _ _ (sym (pieces-then s chars bufferSize later .0))))
+    le-ltb (bufferSize - length text) printedMax (omega (arith, sizes text _ _ (sym (pieces-then s chars bufferSize later .0))))
 
 front : (l : List ℕ) → take (length l) l ≡ l
 front l = take-all (length l) l (omega arith)
 
--- a turn that reads on, and one that is the last
+-- a turn that reads on, and one after which all is done
 module _ (s : ModuleState) (chars : List ℕ) (room : isFull s chars ≡ false) where
   abbrev after : ModuleState
   after = linesState s (answers s chars)
@@ -70,7 +70,7 @@ module _ (s : ModuleState) (chars : List ℕ) (room : isFull s chars ≡ false) 
         left = inl (record { same = refl; same-end = refl; why = rw room; is-done = rw room; not-failed = refl });
       }
 
--- a run that goes on after some turns with these parts
+-- there is a run that ends with all done and reads these parts
 data GoesOn : List (List ℕ) → Type 0 where
   goesOn : {output rest : List ℕ} {after : ModuleState} {endedAfter : Bool} {count : ℕ} {reads : List (List ℕ)}
       (run : Stops output after rest endedAfter true true count false) → runReads run ≡ reads → GoesOn reads
@@ -83,7 +83,7 @@ run-on {s = s} {chars = chars} turns [] some short =
     let line = lastLine (keptOf (leftAfter s chars)) in
     let next = linesState s (answers s chars) in
     let text = next-text s chars line false true 0 next refl (turn .left) [] (λ e. refl) in
-    let room = room-left next line [] (omega (arith, longer (linesText s (answers s chars)) (replayedFrom next (line ++ [])) (replayedFrom s (chars ++ [])) text)) in
+    let room = room-left next line [] (omega (arith, sizes (linesText s (answers s chars)) (replayedFrom next (line ++ [])) (replayedFrom s (chars ++ [])) text)) in
     goesOn (stop (then turns turn) (ends-here next line room) is-done) refl
 run-on {s = s} {chars = chars} turns (part ∷ parts) some short =
     let each = both (ltb 0 (length part)) (all (λ p. ltb 0 (length p)) parts) some in
@@ -91,7 +91,7 @@ run-on {s = s} {chars = chars} turns (part ∷ parts) some short =
     let there = keptOf (leftAfter s chars) ++ part in
     let next = linesState s (answers s chars) in
     let text = next-text s chars there false false (length part) next refl (turn .left) (joined parts) (λ e. absurd (false≢true e)) in
-    let short-rest = longer (linesText s (answers s chars)) (replayedFrom next (there ++ joined parts)) (replayedFrom s (chars ++ (part ++ joined parts))) text in
+    let short-rest = sizes (linesText s (answers s chars)) (replayedFrom next (there ++ joined parts)) (replayedFrom s (chars ++ (part ++ joined parts))) text in
     rw (append-assoc (readsOf turns) (part ∷ []) (parts ++ [] ∷ [])) at (run-on (then turns turn) parts (each .1) (omega arith))
 
 -- ---- the runs
@@ -109,7 +109,7 @@ example-model : modelReplayed exampleInput ≡ exampleText
 unfolding hexText withLineFeeds
 example-model = example-by-model
 
--- parts of the example, as they are read
+-- the example, in whatever parts it is read
 example-runs : (parts : List (List ℕ)) → all (λ part. ltb 0 (length part)) parts ≡ true → joined parts ≡ exampleInput → Prints (parts ++ [] ∷ []) exampleText
 example-runs parts some whole =
     let text : modelReplayed (joined parts) ≡ exampleText = ap modelReplayed whole ∙ example-model in

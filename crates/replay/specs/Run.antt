@@ -6,6 +6,7 @@
 -- - `read_input` reads standard input, `count` and `failed` are the result, and the characters given are those read;
 -- - `main` calls `replay` once, and `report` writes the reason to standard error if not all is done (no test can use up the turns);
 -- - what the C library and the system do in these calls.
+-- So a program that made up what it reads would meet these contracts; the tests rule that out.
 use Prim.Native.Nat.{ℕ, suc}
 use mathlib.Core.Path.{_≡_}
 use mathlib.Core.Bool.{Bool, true, false}
