@@ -1,4 +1,4 @@
--- What is kept of a line whose end is still to be read: how it is moved to the front, and what stands there once a read has answered.
+-- What is kept of a line whose end is still to be read: how it is moved to the front, and what is there after a read.
 -- Assumes nothing.
 use Prim.Native.Nat.{ℕ, _+_, _-_, _<_, _≤_}
 use mathlib.Core.Path.{_≡_, refl, sym, ap, _∙_}
@@ -46,12 +46,12 @@ with-line-feed : (line : List ℕ) → 0 < length line → line ++ lineFeed ∷ 
 with-line-feed [] some = absurd (omega arith)
 with-line-feed (c ∷ line) some = refl
 
--- ---- what a read answers, behind the first k characters of a buffer
+-- ---- what is there after a read that follows the first k characters of a buffer
 module _ (input : List ℕ) (k count : ℕ) (failed : Bool) where
   abbrev pub After : List ℕ → Type 0
   After chars = chars ≡ charsAfter (take k input) (take count (drop k input)) (isEnd count failed)
 
-  -- what it gave, if anything, stands behind what is kept
+  -- what it gave, if anything, follows what is kept
   pub some-given : failed || ltb 0 count ≡ true → After (take (k + count) input)
   some-given e = rw e (take-add k count input)
 
@@ -72,6 +72,6 @@ refilled-after kept moved input chars k count failed front still room after =
     let given = take count (drop k input) in
     record {
       given = given;
-      as-told = length-take-le count (drop k input) (omega (arith, length-drop k input));
+      as-counted = length-take-le count (drop k input) (omega (arith, length-drop k input));
       taken = after ∙ ap (λ (l : List ℕ). charsAfter l given (isEnd count failed)) (still ∙ front);
     }

@@ -21,11 +21,11 @@ use Rattle.replay_text.proofs.Laws.{consumed-within, unfinished-left}
 use Rattle.replay_lines.specs.declared.Progress.{Progress}
 use Rattle.replay_lines.specs.Progress.{progress}
 use Rattle.logic.specs.Lists.{between}
-use Rattle.replay.specs.Program.{bufferSize, Refilled, answers, leftBehind, isFull, Stays}
+use Rattle.replay.specs.Program.{bufferSize, Refilled, answers, leftAfter, isFull, Stays}
 
--- a part of a buffer, once some of it is behind
-between-behind : (l : List ℕ) (from end n : ℕ) → from + n ≤ end → end ≤ length l → between (from + n) end l ≡ drop n (between from end l)
-between-behind l from end n within inside =
+-- a part of a buffer without its first n elements
+between-after : (l : List ℕ) (from end n : ℕ) → from + n ≤ end → end ≤ length l → between (from + n) end l ≡ drop n (between from end l)
+between-after l from end n within inside =
     let k = end - (from + n) in
     let size = length-drop from l in
     let width : end - from ≡ n + k = omega arith in
@@ -39,7 +39,7 @@ pub record Learnt (state : ModuleState) (input : List ℕ) (from end : ℕ) (out
   pub text-within : r .written ≤ length output
   pub state-after : r .state ≡ linesState state (answers state (between from end input))
   pub text : take (length (linesText state (answers state (between from end input)))) output ≡ linesText state (answers state (between from end input))
-  pub left : between (from + r .consumed) end input ≡ leftBehind state (between from end input)
+  pub left : between (from + r .consumed) end input ≡ leftAfter state (between from end input)
   pub full : ltb (length output - r .written) printedMax ≡ isFull state (between from end input)
 
 -- that is what the contract of `replay_lines` says, in an output buffer of the program's size
@@ -54,32 +54,32 @@ learnt state input before after from end r ordered inside size same result buffe
     let ls = answers state chars in
     let text = linesText state ls in
     let lines-answered : answered state chars (length before) ≡ ls = ap (answered state chars) size in
-    let told : r ≡ progress state ls = result ∙ ap (progress state) lines-answered in
+    let reported : r ≡ progress state ls = result ∙ ap (progress state) lines-answered in
     let placed : after ≡ written before text = buffer ∙ ap (λ (k : List (List ℕ)). written before (linesText state k)) lines-answered in
-    let consumed : r .consumed ≡ length (withLineFeeds ls) = ap (λ (p : Progress). p .consumed) told in
-    let count : r .written ≡ length text = ap (λ (p : Progress). p .written) told in
+    let consumed : r .consumed ≡ length (withLineFeeds ls) = ap (λ (p : Progress). p .consumed) reported in
+    let count : r .written ≡ length text = ap (λ (p : Progress). p .written) reported in
     let width = length-take-le (end - from) (drop from input) (omega (arith, length-drop from input)) in
     let within : from + r .consumed ≤ end = omega (arith, consumed-within state chars bufferSize) in
     record {
       start-within = within;
       text-within = omega (arith, ap length placed, length-append text (drop (length text) before));
-      state-after = ap (λ (p : Progress). p .state) told;
+      state-after = ap (λ (p : Progress). p .state) reported;
       text = ap (take (length text)) placed ∙ written-front before text;
-      left = between-behind input from end (r .consumed) within inside ∙ ap (λ (n : ℕ). drop n chars) consumed;
+      left = between-after input from end (r .consumed) within inside ∙ ap (λ (n : ℕ). drop n chars) consumed;
       full = rw (same ∙ size, count);
     }
 
--- what is read stands from the buffer's first place on
+-- what is read begins at the buffer's first place
 pub refilled : (kept left buffer : List ℕ) (end count : ℕ) (failed : Bool) → left ≡ kept
     → Refilled (keptOf left) (take end buffer) count failed → Refilled (keptOf kept) (between 0 end buffer) count failed
 refilled kept left buffer end count failed e h = rw (← e, sub-zero) h
 
 -- where a line more would fit, only a line is left that is not finished
-pub not-finished : (state : ModuleState) (chars : List ℕ) → isFull state chars ≡ false → leftBehind state chars ≡ unfinished chars
+pub not-finished : (state : ModuleState) (chars : List ℕ) → isFull state chars ≡ false → leftAfter state chars ≡ unfinished chars
 not-finished state chars e = unfinished-left state chars bufferSize (ltb-false (bufferSize - length (linesText state (answers state chars))) printedMax e)
 
 -- after the last turn nothing is left but that, and the input has ended
 pub at-last : (state : ModuleState) (chars rest : List ℕ) (ended endedAfter : Bool) → Stays state chars ended rest endedAfter true true false
-    → (ended ≡ true) × (leftBehind state chars ≡ unfinished chars)
+    → (ended ≡ true) × (leftAfter state chars ≡ unfinished chars)
 at-last state chars rest ended endedAfter stays =
     by-cases (isFull state chars) (λ t. absurd (false≢true (rw t at (sym (stays .is-done))))) (λ f. (rw f at (stays .why), not-finished state chars f))

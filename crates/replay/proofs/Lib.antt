@@ -1,3 +1,5 @@
 pub mod Kept
 pub mod Left
+pub mod Turns
 pub mod Runs
+pub mod Witness

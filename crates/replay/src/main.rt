@@ -9,32 +9,35 @@ ghost use lib.ListN.{length, take, drop};
 ghost use Rattle.replay_text.specs.Session.{keptMax, keptOf};
 ghost use Rattle.logic.specs.Lists.{between};
 ghost use Rattle.replay.specs.Program.{bufferSize, isEnd, charsAfter, Refilled, Turned};
+ghost use Rattle.replay.specs.Run.{Stops};
 use cdi_state::ModuleState;
 use hex_text::LINE_FEED;
 use hex_text::LINE_MAX;
+use libc::STDERR_FILENO;
 use libc::STDIN_FILENO;
 use libc::STDOUT_FILENO;
 use replay_lines::PRINTED_MAX;
 
-// What is kept of a line whose end is still to be read. A line with one character too many stays too long whatever follows, so
-// the rest of it need not be kept.
+// The most that is kept of a line whose end is still to be read. A line with one character too many stays too long whatever follows,
+// so the rest of it need not be kept.
 const KEPT_MAX: usize = LINE_MAX + 1;
 
-// What a read answered: how many bytes it gave, and whether it failed. Where it gave none and did not fail, the input has ended.
+// The result of a read: how many bytes it gave, and whether it failed. If it gave none and did not fail, the input has ended.
 struct Piece {
     count: usize,
     failed: bool,
 }
 
-// What of the input buffer holds characters once a read has answered, and what that was.
+// How much of the input buffer holds characters after a read, and the read's result.
 struct Filled {
     end: usize,
     count: usize,
     failed: bool,
 }
 
-// What goes from one turn to the next: the state, which part of the input buffer is not answered, whether the input has ended behind
-// it, and whether all is answered. Beside it, what the print and the read of the turn answered: no turn follows where one failed.
+// What goes from one turn to the next: the state, which part of the input buffer is not answered yet, and whether the input has ended
+// after it. The rest says how the turn went: whether all is done, whether the text was printed, and the result of the read. No turn
+// follows one that is done or failed.
 struct Session {
     state: ModuleState,
     start: usize,
@@ -60,7 +63,7 @@ fn keep(input: &mut [u8], from: usize, end: usize) -> usize
     i
 }
 
-// Reads once, behind the first `kept` bytes of `input`, and returns what the read answered. Where it failed, standard error says why.
+// Reads once, into `input` after its first `kept` bytes, and returns the result.
 fn read_input(input: &mut [u8], kept: usize) -> Piece
     requires { ⌜ kept ≤ length (now input) ⌝ }
     ensures { λ r. ⌜ (kept + r .count ≤ length (now (input .entry))) × (take kept (now (input .exit)) ≡ take kept (now (input .entry))) ⌝ }
@@ -68,17 +71,14 @@ fn read_input(input: &mut [u8], kept: usize) -> Piece
     let part = &mut input[kept..];
     let got = libc::read(STDIN_FILENO, part);
     let count = io::count(got, part);
-    if got < 0 {
-        os::fail(b"replay: standard input cannot be read");
-    }
     Piece {
         count,
         failed: got < 0,
     }
 }
 
-// How many characters there are once a read answered, behind the first `kept` of them. Where the input has ended, a line feed ends
-// the line.
+// How many characters there are after a read that followed the first `kept` of them. If the input has ended within a line, a line feed
+// is added.
 fn take_in(input: &mut [u8], kept: usize, count: usize, failed: bool) -> usize
     requires { ⌜ (kept < length (now input)) × (kept + count ≤ length (now input)) ⌝ }
     ensures { λ r. ⌜ (r ≤ length (now (input .entry)))
@@ -94,7 +94,7 @@ fn take_in(input: &mut [u8], kept: usize, count: usize, failed: bool) -> usize
     kept + 1
 }
 
-// Reads on behind input[from..end], a line whose end is still to be read.
+// Keeps input[from..end], a line whose end is still to be read, at the front, and reads on after it.
 fn refill(input: &mut [u8], from: usize, end: usize) -> Filled
     requires { ⌜ (length (now input) ≡ bufferSize) × (from ≤ end) × (end ≤ bufferSize) ⌝ }
     ensures { λ r. ⌜ (r .end ≤ bufferSize)
@@ -108,17 +108,13 @@ fn refill(input: &mut [u8], from: usize, end: usize) -> Filled
     Filled { end, count, failed }
 }
 
-// Prints a text and returns whether it could. Where it could not, standard error says why.
+// Prints a text and returns whether all of it was written.
 fn print(text: &[u8]) -> bool {
-    let printed = io::write_all(STDOUT_FILENO, text);
-    if !printed {
-        os::fail(b"replay: standard output cannot be written");
-    }
-    printed
+    io::write_all(STDOUT_FILENO, text)
 }
 
-// Answers as many lines as there is room for, prints that, and reads on where no whole line is left. What is answered is printed
-// before more is read, so that whoever feeds the program a line at a time has each response before the next line.
+// Answers as many lines as there is room for, prints the responses, and reads on if no whole line is left. It prints before it reads,
+// so that a user who types a line at a time sees each response before the next line.
 fn turn(session: Session, input: &mut [u8], output: &mut [u8]) -> Session
     requires { ⌜ (length (now input) ≡ bufferSize) × (length (now output) ≡ bufferSize)
         × (session .start ≤ session .end) × (session .end ≤ bufferSize) ⌝ }
@@ -135,7 +131,7 @@ fn turn(session: Session, input: &mut [u8], output: &mut [u8]) -> Session
     let written = progress.written;
     let start = from + progress.consumed;
     let printed = print(&output[0..written]);
-    // A line that might not fit may be waiting. Without one, only a line is left whose end is still to be read.
+    // If the output is full, whole lines may be left. If not, only a line is left whose end is still to be read.
     let full = output.len() - written < PRINTED_MAX;
     if !printed | full | ended {
         return Session {
@@ -164,9 +160,12 @@ fn turn(session: Session, input: &mut [u8], output: &mut [u8]) -> Session
     }
 }
 
-// A proved loop has to end, and nothing says that the input does. So the turns are counted down, from a number that no run uses up.
-fn replay(input: &mut [u8], output: &mut [u8])
+// Runs turns until all is done, a print or a read fails, or the turns are used up, and returns the last one's session. A proved loop
+// has to end, and the input may never end, so the turns are counted down from a number that no run uses up.
+fn replay(input: &mut [u8], output: &mut [u8]) -> Session
     requires { ⌜ (length (now input) ≡ bufferSize) × (length (now output) ≡ bufferSize) ⌝ }
+    ensures { λ r. ⌜ Stops (now (output .exit)) (r .state) (between (r .start) (r .end) (now (input .exit))) (r .ended)
+        (r .done) (r .printed) (r .count) (r .failed) ⌝ }
 {
     let mut session = Session {
         state: ModuleState::factory(),
@@ -179,20 +178,42 @@ fn replay(input: &mut [u8], output: &mut [u8])
         failed: false,
     };
     let mut turns = u64::MAX;
-    while turns > 0 {
+    loop {
         session = turn(session, input, output);
+        turns -= 1;
         let done = session.done;
         let printed = session.printed;
         let failed = session.failed;
-        if done | !printed | failed {
-            return;
+        if done | !printed | failed | (turns == 0) {
+            return session;
         }
-        turns -= 1;
     }
+}
+
+// Reports on standard error why the program stopped before all was done. `os::fail` adds the system's reason for the last call that
+// failed, which is the print or the read: the program makes no call after it. No contract can say what is written, so
+// `tests/test_replay.py` provokes both failures. No test can use up the turns.
+fn report(done: bool, printed: bool, failed: bool) {
+    if done {
+        return;
+    }
+    if !printed {
+        os::fail(b"replay: standard output cannot be written");
+        return;
+    }
+    if failed {
+        os::fail(b"replay: standard input cannot be read");
+        return;
+    }
+    io::write_all(
+        STDERR_FILENO,
+        b"replay: stopped after 18446744073709551615 turns, with input left\n",
+    );
 }
 
 fn main() {
     let mut input = io::large_buffer();
     let mut output = io::large_buffer();
-    replay(&mut input, &mut output);
+    let last = replay(&mut input, &mut output);
+    report(last.done, last.printed, last.failed);
 }

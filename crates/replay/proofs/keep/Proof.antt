@@ -1,4 +1,4 @@
--- `replay::keep` meets its contract: the loop never reads behind `end`, writes only where it has read before, and stops at the most
+-- `replay::keep` meets its contract: the loop never reads past `end`, writes only where it has read before, and stops at the most
 -- that has to be kept.
 -- Assumes nothing.
 use Prim.Native.Nat.{_+_, _-_, _≤_}

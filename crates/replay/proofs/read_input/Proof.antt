@@ -1,4 +1,4 @@
--- `replay::read_input` meets its contract: only the part behind the first `kept` bytes is read into.
+-- `replay::read_input` meets its contract: only the part after the first `kept` bytes is read into.
 -- Assumes nothing.
 use Prim.Native.Nat.{_-_}
 use borrow.Author.Needs.{needs}
@@ -22,20 +22,14 @@ read-requires c κs = search needs
 count-requires : tie.Need-count-requires
 count-requires c κs = search needs
 
-slice-aggregate-fail : tie.Need-slice-aggregate-fail
-slice-aggregate-fail c = search needs
-
-fail-requires : tie.Need-fail-requires
-fail-requires c κs = search needs
-
 same-length : tie.Need-same-length
 same-length c = search needs
 
 returns : tie.Need-returns
 returns c =
-    let s = c .before .before .before .before .before .before .before .before .before .before .before in
+    let s = c .before .before .before .before .before .before .before .before .before .before in
     let input = s .args .input .now in
-    let read = c .before .before .before .before .before .before .before .read .last .1 .0 in
+    let read = c .before .before .before .before .before .before .read .last .1 .0 in
     (search needs, take-put (s .args .kept) (length input - s .args .kept) input read (s .pre))
 
 pub read-input-spec : {M : Type 1} → statement M
@@ -47,7 +41,5 @@ read-input-spec =
     part-part-end
     read-requires
     count-requires
-    slice-aggregate-fail
-    fail-requires
     same-length
     returns)

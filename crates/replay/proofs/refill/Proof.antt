@@ -1,4 +1,4 @@
--- `replay::refill` meets its contract: what the read gave stands behind what was kept.
+-- `replay::refill` meets its contract: what the read gave follows what was kept.
 -- Assumes nothing.
 use native.Mathlib.Omega.{arith}
 use borrow.Author.Needs.{needs}

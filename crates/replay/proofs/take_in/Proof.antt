@@ -1,4 +1,4 @@
--- `replay::take_in` meets its contract: what was given stands behind what was kept, and a line feed ends a last line that lacks it.
+-- `replay::take_in` meets its contract: what was given follows what was kept, and a line feed ends a last line that lacks it.
 -- Assumes nothing.
 use native.Mathlib.Omega.{arith}
 use borrow.Author.Needs.{needs}

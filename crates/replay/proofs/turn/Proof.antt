@@ -1,5 +1,5 @@
 -- `replay::turn` meets its contract: what `replay_lines` answers is printed, and where it leaves room only a line is left that is not
--- finished, behind which more is read.
+-- finished, after which more is read.
 -- Assumes nothing.
 use Prim.Native.Nat.{_-_}
 use mathlib.Core.Path.{refl}
@@ -111,7 +111,7 @@ returns-2 c =
           not-full = rw (← k .full) (printed .1);
           not-ended = test .1;
           refilled = refilled _ _ (refill .last .0) (refill .result .end) (refill .result .count) (refill .result .failed) (k .left) (refill .ensures .1);
-          end-told = refl;
+          end-known = refl;
           not-done = refl;
         });
       },
