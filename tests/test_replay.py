@@ -12,6 +12,7 @@ import contextlib
 import errno
 import itertools
 import os
+import pathlib
 import random
 import shutil
 import signal
@@ -701,6 +702,43 @@ def check_many_reads(compare, rng):
     compare.lines += MANY
 
 
+TURNS = "let mut turns = u64::MAX;"
+WAYS = 4  # `rt try` runs a program on the interpreter, and compiled in three ways
+
+
+def program_with_turns(folder, turns):
+    """The sources with a program that makes at most this many turns; returns the program's folder."""
+    left_out = shutil.ignore_patterns("must-fail", "proofs", "specs")
+    shutil.copytree(ROOT / "crates", folder / "crates", ignore=left_out)
+    shutil.copy(ROOT / "crates.txt", folder)
+    crate = folder / "crates" / "replay"
+    source = crate / "src" / "main.rt"
+    text = source.read_text(encoding="utf-8")
+    if text.count(TURNS) != 1:
+        raise Problem(f"{source.name} does not have '{TURNS}' once")
+    source.write_text(text.replace(TURNS, f"let mut turns: u64 = {turns};"), encoding="utf-8")
+    return crate
+
+
+def check_turns_used(compare, rng):
+    """A program whose turns are used up says so. The prover refuses one with fewer turns, so it is run
+    without proof. Its second turn answers the first line; the last one, without a line feed, needs a third.
+    """
+    line, answer = "80 55 82 01 15", "80 55 83 C1 15 00\n"
+    with tempfile.TemporaryDirectory() as folder:
+        crate = program_with_turns(pathlib.Path(folder), 2)
+        (crate / "stdin").write_text(f"{line}\n{line}", encoding="utf-8")
+        (crate / "stdout").write_text(answer * 2, encoding="utf-8")
+        words = ["rt", "try", "replay"]
+        done = subprocess.run(words, cwd=folder, capture_output=True, text=True, timeout=PATIENCE)
+    said = done.stdout + done.stderr
+    stopped = f'at byte {len(answer)}, expected "{answer[:-1]}\\n", found ""'
+    message = "\nreplay: stopped after 18446744073709551615 turns, with input left\n"
+    if said.count(stopped) != WAYS or said.count(message) != WAYS:
+        raise Problem(f"two turns are used up, and `rt try` says:\n{said}")
+    compare.lines += 1
+
+
 # ---- The script ./replay ---------------------------------------------------------------------
 
 
@@ -923,6 +961,7 @@ CHECKS = (
     check_failing_reads,
     check_failing_writes,
     check_many_reads,
+    check_turns_used,
     check_script_status,
     check_script_arguments,
     check_script_links,

@@ -4,7 +4,7 @@
 -- No contract can say what a call of C reads or writes, so the following is outside the proof and is tested instead:
 -- - `print` writes the front of the output buffer to standard output, once and before more is read, and `printed` is its result;
 -- - `read_input` reads standard input, `count` and `failed` are the result, and the characters given are those read;
--- - `main` calls `replay` once, and `report` writes the reason to standard error if not all is done (no test can use up the turns);
+-- - `main` calls `replay` once, and `report` writes the reason to standard error if not all is done;
 -- - what the C library and the system do in these calls.
 -- So a program that made up what it reads would meet these contracts; the tests rule that out.
 use Prim.Native.Nat.{ℕ, suc}

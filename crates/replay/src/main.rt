@@ -192,7 +192,7 @@ fn replay(input: &mut [u8], output: &mut [u8]) -> Session
 
 // Reports on standard error why the program stopped before all was done. `os::fail` adds the system's reason for the last call that
 // failed, which is the print or the read: the program makes no call after it. No contract can say what is written, so
-// `tests/test_replay.py` provokes both failures. No test can use up the turns.
+// `tests/test_replay.py` provokes each message, the last one in a program with two turns.
 fn report(done: bool, printed: bool, failed: bool) {
     if done {
         return;
