@@ -1,8 +1,8 @@
 -- One more turn after some turns: the loop goes on, or it ends for one of its reasons.
 -- Assumes nothing.
 use Prim.Native.Nat.{ℕ, suc, _<_}
-use mathlib.Core.Path.{_≡_, refl, sym, _∙_}
-use mathlib.Core.Bool.{Bool, true, false, not, _&&_, _||_, false≢true}
+use mathlib.Core.Path.{_≡_, sym, _∙_}
+use mathlib.Core.Bool.{Bool, true, false, not, _||_, and-eq-true-iff, false≢true}
 use mathlib.Core.Logic.{_⊎_, inl, inr}
 use mathlib.Core.List.{List}
 use native.Mathlib.Omega.{arith}
@@ -12,10 +12,6 @@ use Rattle.logic.proofs.Choice.{by-cases, neither}
 use Rattle.cdi_state.specs.declared.ModuleState.{ModuleState}
 use Rattle.replay.specs.Program.{isFull, Stays, ReadsOn, Turned}
 use Rattle.replay.specs.Run.{Turns, then, turnsMax, Last, is-done, not-printed, read-failed, used-up, Stops, stop}
-
-pub both : (a b : Bool) → a && b ≡ true → (a ≡ true) × (b ≡ true)
-both true b e = (refl, e)
-both false b e = (e, cc)
 
 -- the test by which the loop ends, with the number of turns that are left
 abbrev pub ends : (done printed failed : Bool) (left : ℕ) → Bool
@@ -27,7 +23,7 @@ module _ (state : ModuleState) (chars rest : List ℕ) (ended endedAfter done pr
 
   -- if all is done, the text is printed and no read failed
   when-done : Left → done ≡ true → (printed ≡ true) × (failed ≡ false)
-  when-done (inl stays) d = (both printed (not (isFull state chars)) (sym (stays .is-done) ∙ d) .0, stays .not-failed)
+  when-done (inl stays) d = (and-eq-true-iff printed (not (isFull state chars)) .0 (sym (stays .is-done) ∙ d) .0, stays .not-failed)
   when-done (inr reads) d = absurd (false≢true (sym (reads .not-done) ∙ d))
 
   -- if the text could not be printed, not all is done and no read failed

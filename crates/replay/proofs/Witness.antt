@@ -2,7 +2,7 @@
 -- Assumes nothing.
 use Prim.Native.Nat.{ℕ, zero, suc, _+_, _-_, _≤_}
 use mathlib.Core.Path.{_≡_, refl, sym, ap, _∙_}
-use mathlib.Core.Bool.{Bool, true, false, false≢true}
+use mathlib.Core.Bool.{Bool, true, false, and-eq-true-iff, false≢true}
 use mathlib.Core.Logic.{inl, inr}
 use mathlib.Core.List.{List, [], _∷_, _++_, append-nil, append-assoc}
 use native.Mathlib.Omega.{arith}
@@ -25,7 +25,6 @@ use Rattle.replay_text.proofs.Examples.{example-by-model, shortest-inputs}
 use Rattle.replay.specs.Program.{bufferSize, isEnd, charsAfter, answers, leftAfter, isFull, Turned}
 use Rattle.replay.specs.Run.{Turns, start, then, readsOf, is-done, not-printed, read-failed, used-up, Stops, stop, runReads}
 use Rattle.replay.specs.Witness.{exampleInput, exampleText, spaceLine, notHexLine, Prints, prints, Witnesses}
-use Rattle.replay.proofs.Turns.{both}
 use Rattle.replay.proofs.Runs.{next-text, joined-one, run-theorem}
 
 -- a text is as long as its two parts
@@ -86,7 +85,7 @@ run-on {s = s} {chars = chars} turns [] some short =
     let room = room-left next line [] (omega (arith, sizes (linesText s (answers s chars)) (replayedFrom next (line ++ [])) (replayedFrom s (chars ++ [])) text)) in
     goesOn (stop (then turns turn) (ends-here next line room) is-done) refl
 run-on {s = s} {chars = chars} turns (part ∷ parts) some short =
-    let each = both (ltb 0 (length part)) (all (λ p. ltb 0 (length p)) parts) some in
+    let each = and-eq-true-iff (ltb 0 (length part)) (all (λ p. ltb 0 (length p)) parts) .0 some in
     let turn = reads-on s chars (room-left s chars (part ++ joined parts) short) part false (rw (each .0)) in
     let there = keptOf (leftAfter s chars) ++ part in
     let next = linesState s (answers s chars) in
