@@ -73,7 +73,7 @@ module _ (theorem : SequenceTheorem) (s : ModuleState) (h : ArrayLengths s) wher
   same-cells : (calls : List Call) → cells (stateAfter s calls) ≡ cellsAfter s calls
   same-cells calls = fun-ext (claims calls .agrees-with-model .0)
 
-  -- what holds of the model's cells behind some calls holds of the module's
+  -- what holds of the model's cells after some calls holds of the module's
   carried : (P : Cells → Type 0) (calls : List Call) → P (cellsAfter s calls) → P (cells (stateAfter s calls))
   carried P calls p = subst P (sym (same-cells calls)) p
 

@@ -114,7 +114,7 @@ factorySentences =
     leaves (programMessage ∷ writeMessage ∷ []) nvMessage (0x06 ∷ []) ∷
     -- a power-up brings back what was programmed
     leaves (programMessage ∷ writeMessage ∷ readMessage 0x03 ∷ powered 0 ∷ readMessage 0x06 ∷ []) workingMessage (0x06 ∷ []) ∷
-    -- the last store counts, also where two stores in other cells stand between
+    -- the last store counts, also if there are two stores in other cells between
     storesInTurn (programMessage ∷ writePower ∷ programSlot39 ∷ writeMessage ∷ readMessage 0x03 ∷ []) workingMessage
     ((0x06 ∷ []) ∷ (0x03 ∷ []) ∷ []) (0x03 ∷ []) ∷
     storesInTurn (programMessage ∷ writeMessage ∷ writeMessage7 ∷ readNvMessage 0x06 ∷ []) nvMessage ((0x06 ∷ []) ∷ []) (0x06 ∷ []) ∷
@@ -132,10 +132,10 @@ factorySentences =
     exchanges (programMessage ∷ writeMessage ∷ []) (powered 0) programSlot39 (readMessage 0x06 ∷ readSlot39 ∷ []) ∷
     -- a Write of message select and a Read of the status can be exchanged
     exchanges (writeControl ∷ writePower ∷ []) writeMessage (readStatus 0x00 0xEC 0x00 0x00) (readMessage 0x03 ∷ []) ∷
-    -- a refused call can be exchanged with any other
+    -- a refused Write and a power-up can be exchanged
     exchanges (programMessage ∷ []) writeMessage7 (powered 0) (readMessage 0x06 ∷ []) ∷
-    -- but not two Programs of one input, a Program and a Read of it, Set Default and a Write of a setting, Erase and a Program of a slot,
-    -- a power-up and a Program of a setting, or a Write of the control source and a Read of the status
+    -- these pairs share a cell: two Programs of one input, a Program and a Read of it, Set Default and a Write of a setting, Erase and a Program of a slot,
+    -- a power-up and a Program of a setting, a Write of the control source and a Read of the status
     shareCell [] programInput2 programInput2 ∷
     shareCell [] programInput1 readInput1 ∷
     shareCell (programMessage ∷ []) setDefault writeMessage ∷
