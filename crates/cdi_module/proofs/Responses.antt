@@ -8,9 +8,9 @@ use lib.ListN.{length, take}
 use Rattle.cdi_frame.specs.Layout.{responseFrame}
 use Rattle.cdi_command.specs.declared.Command.{Command}
 use Rattle.cdi_command.specs.declared.Command.the-variants.{Read, ReadIndexed, ReadNv, ReadNvIndexed, Write, WriteIndexed, Program, ProgramIndexed, SetDefault, EraseAll}
-use Rattle.cdi_command.specs.declared.Payload.{Payload}
+use Rattle.cdi_payload.specs.declared.Payload.{Payload}
 use Rattle.cdi_command.specs.Payload.{commandPayload, payloadMax, responsePayload, responseBufferMin}
-use Rattle.cdi_command.specs.Carried.{Carries}
+use Rattle.cdi_payload.specs.Carried.{Carries}
 use Rattle.cdi_command.proofs.Accepted.{payload-bounds}
 use Rattle.cdi_value.specs.Value.{valueMax, valueRoom}
 

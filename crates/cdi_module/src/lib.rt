@@ -67,7 +67,7 @@ fn write_ack(command: Command, response: &mut [u8]) -> usize
     requires { ⌜ responseBufferMin ≤ length (now response) ⌝ }
     ensures { λ r. ⌜ Writes (responseWith command []) (now (response .entry)) (now (response .exit)) r ⌝ }
 {
-    let payload = cdi_command::payload_of(command);
+    let payload = cdi_payload::payload_of(command);
     let size = payload.length;
     response::write_response(&payload.bytes, size, b"", 0, response)
 }
@@ -77,7 +77,7 @@ fn write_read(state: ModuleState, command: Command, response: &mut [u8]) -> usiz
     requires { ⌜ responseBufferMin ≤ length (now response) ⌝ }
     ensures { λ r. ⌜ Writes (responseTo state command) (now (response .entry)) (now (response .exit)) r ⌝ }
 {
-    let payload = cdi_command::payload_of(command);
+    let payload = cdi_payload::payload_of(command);
     let size = payload.length;
     let mut value = [0u8; NAME_LENGTH];
     let count = cdi_value::read(state, command, &mut value);

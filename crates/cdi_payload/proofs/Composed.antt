@@ -8,9 +8,9 @@ use lib.Seq.{take-append-le, take-append-add, take-at}
 use Rattle.cdi_item.specs.declared.Item.{Item}
 use Rattle.cdi_item.specs.declared.Value.{Value}
 use Rattle.cdi_item.specs.Values.{valueBytes}
 use Rattle.cdi_command.specs.Payload.{valueIn}
-use Rattle.cdi_command.specs.Carried.{Carries}
+use Rattle.cdi_payload.specs.Carried.{Carries}
 use Rattle.cdi_command.proofs.Accepted.{value-short}
 
 module _ (x : Item) (v : Value) where
   value-front : take (length (valueIn x v)) (valueBytes v) ≡ valueIn x v

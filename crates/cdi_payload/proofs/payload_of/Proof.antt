@@ -1,8 +1,8 @@
 -- `payload_of` meets its contract: each case of a command has the function that composes its payload.
 -- Assumes nothing.
 use borrow.Author.Needs.{needs}
-use Rattle.cdi_command.proofs.payload_of.Statement.{statement}
-use Rattle.cdi_command.proofs.payload_of.Tie as tie
+use Rattle.cdi_payload.proofs.payload_of.Statement.{statement}
+use Rattle.cdi_payload.proofs.payload_of.Tie as tie
 
 enum-known-command : tie.Need-enum-known-command
 enum-known-command c = search needs

@@ -2,12 +2,12 @@
 ghost use mathlib.Core.Path.{_≡_};
 ghost use mathlib.Core.List.{[], _∷_};
 ghost use lib.ListN.{length};
 ghost use Rattle.cdi_command.specs.Payload.{indexByte, valueIn};
-ghost use Rattle.cdi_command.specs.Carried.{Carries};
-use super::Index;
+ghost use Rattle.cdi_payload.specs.Carried.{Carries};
 use super::Payload;
-use super::on_item::PLAIN_VALUE;
-use super::on_item::ROW_VALUE;
+use cdi_command::Index;
+use cdi_command::PLAIN_VALUE;
+use cdi_command::ROW_VALUE;
 use cdi_item::Item;
 use cdi_item::ROW_LENGTH;
 use cdi_item::Value;

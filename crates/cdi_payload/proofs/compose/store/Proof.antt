@@ -2,11 +2,11 @@
 -- Assumes nothing.
 use mathlib.Core.List.{[], _∷_}
 use native.Mathlib.Omega.{arith}
 use Rattle.cdi_command.proofs.Accepted.{value-short}
-use Rattle.cdi_command.proofs.Composed.{value-carried}
+use Rattle.cdi_payload.proofs.Composed.{value-carried}
 use borrow.Author.Needs.{needs}
-use Rattle.cdi_command.proofs.compose.store.Statement.{statement}
-use Rattle.cdi_command.proofs.compose.store.Tie as tie
+use Rattle.cdi_payload.proofs.compose.store.Statement.{statement}
+use Rattle.cdi_payload.proofs.compose.store.Tie as tie
 
 value-length-requires : tie.Need-value-length-requires
 value-length-requires c κs = search needs

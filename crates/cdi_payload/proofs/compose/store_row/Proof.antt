@@ -2,11 +2,11 @@
 -- Assumes nothing.
 use mathlib.Core.List.{[], _∷_}
 use native.Mathlib.Omega.{arith}
 use Rattle.cdi_command.proofs.Accepted.{value-short}
-use Rattle.cdi_command.proofs.Composed.{value-carried}
+use Rattle.cdi_payload.proofs.Composed.{value-carried}
 use borrow.Author.Needs.{needs}
-use Rattle.cdi_command.proofs.compose.store_row.Statement.{statement}
-use Rattle.cdi_command.proofs.compose.store_row.Tie as tie
+use Rattle.cdi_payload.proofs.compose.store_row.Statement.{statement}
+use Rattle.cdi_payload.proofs.compose.store_row.Tie as tie
 
 index-byte-requires : tie.Need-index-byte-requires
 index-byte-requires c κs = search needs

@@ -5,8 +5,8 @@ use native.Mathlib.Omega.{arith}
 use lib.Seq.{take-all, length-take-le}
 use Rattle.cdi_item.specs.Values.{valueBytes}
 use borrow.Author.Needs.{needs}
-use Rattle.cdi_command.proofs.compose.value_length.Statement.{statement}
-use Rattle.cdi_command.proofs.compose.value_length.Tie as tie
+use Rattle.cdi_payload.proofs.compose.value_length.Statement.{statement}
+use Rattle.cdi_payload.proofs.compose.value_length.Tie as tie
 
 cast-length : tie.Need-cast-length
 cast-length c = search needs
