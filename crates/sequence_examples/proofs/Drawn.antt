@@ -7,7 +7,7 @@ use mathlib.Core.List.{List, [], _∷_, _++_, map-append}
 use lib.ListN.{length}
 use Rattle.sequence.specs.Model.{Apart, accepts, storesIn, next, after, results as modelResults, lastOr, swapAt}
 use Rattle.sequence.specs.Machine.{Claims, run, results, given}
-use Rattle.sequence.proofs.Computed.{someStores, none-stores}
+use Rattle.sequence_examples.proofs.Computed.{someStores, none-stores}
 use Rattle.cdi_state.specs.declared.ModuleState.{ModuleState}
 use Rattle.cdi_state.specs.State.{ArrayLengths}
 use Rattle.cdi_model.specs.Cells.{Cell}
@@ -43,7 +43,7 @@ Computed s (keeps before x rest c bytes) =
     × ModelAnswers s (before ++ x ∷ rest)
 Computed s (spares calls c) = (someStores model machine s (steps calls) c ≡ false) × ModelAnswers s calls
 Computed s (exchanges before a b rest) = (pairApart s before a b ≡ true) × ModelAnswers s (before ++ a ∷ b ∷ rest)
-Computed s (shareCell before a b) = pairApart s before a b ≡ false
+Computed s (shareCell before a b) = (pairApart s before a b ≡ false) × ModelAnswers s (before ++ a ∷ b ∷ [])
 Computed s (refuses before x rest) = (accepts model (cellsAfter s before) (x .step) ≡ false) × ModelAnswers s (before ++ x ∷ rest)
 Computed s (undo calls) = ((c : Cell) → cells s c ≡ cells (stateAfter s calls) c) × ModelAnswers s calls
 
@@ -106,9 +106,12 @@ module _ (theorem : SequenceTheorem) (s : ModuleState) (h : ArrayLengths s) wher
             ∙ ap (swapAt (length (steps before))) (answered ab (p .1))
             ∙ swapped before a b rest,
       )
-  drawn (shareCell before a b) p =
-      λ apart. let there = subst (λ m. Apart model m (a .step) (b .step)) (same-cells before) apart in
-      true≢false (sym (apart-is-computed (cellsAfter s before) (a .step) (b .step) .1 there) ∙ p)
+  drawn (shareCell before a b) p = (
+    λ apart.
+        let there = subst (λ m. Apart model m (a .step) (b .step)) (same-cells before) apart in
+        true≢false (sym (apart-is-computed (cellsAfter s before) (a .step) (b .step) .1 there) ∙ p .0),
+    answered (before ++ a ∷ b ∷ []) (p .1),
+  )
   drawn (refuses before x rest) p =
       let both = claims (before ++ x ∷ rest) .refused-stores-none (steps before) (x .step) (steps rest) (split before (x ∷ rest))
       (carried (λ m. accepts model m (x .step) ≡ false) before (p .0)) in

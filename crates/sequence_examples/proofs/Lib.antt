@@ -1,2 +1,4 @@
+pub mod Computed
 pub mod Drawn
 pub mod Proved
+pub mod Unaltered

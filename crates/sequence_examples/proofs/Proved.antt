@@ -6,7 +6,7 @@ use Rattle.logic.specs.Lists.{allBelow}
 use Rattle.logic.specs.Written.{written}
 use Rattle.sequence.specs.Model.{after, results as modelResults, lastOr}
 use Rattle.sequence.specs.Machine.{run, given}
-use Rattle.sequence.proofs.Computed.{someStores}
+use Rattle.sequence_examples.proofs.Computed.{someStores}
 use Rattle.cdi_frame.specs.Frame.{wakes, lengthAt, readFrame}
 use Rattle.cdi_item.specs.Items.{items, itemIn, itemOf}
 use Rattle.cdi_item.specs.Values.{acceptedValue}
@@ -37,8 +37,8 @@ unfolding allBelow written after modelResults lastOr run given someStores wakes 
     actionOf reads stores everyCell areApart upToZero isValid decide decidePayload decideBlock gives valueRead responsePayload resultOf
     cells Module.commandIn Module.decide Module.step Module.resultOf
 computed = (
-  ((refl, refl), ((refl, refl), ((refl, refl), ((refl, refl, refl), ((refl, refl, refl), ((refl, refl, refl, refl), ((refl, refl), ((refl, refl), ((refl, refl), ((refl, refl), ((refl, refl), ((refl, refl), ((refl, refl), (refl, (refl, (refl, (refl, (refl, (refl, ((refl, refl), ((λ c. refl, refl), ((λ c. refl, refl), tt)))))))))))))))))))))),
-  ((refl, refl), ((refl, refl), ((refl, refl), ((refl, refl), (refl, tt))))),
+  ((refl, refl), ((refl, refl), ((refl, refl), ((refl, refl, refl), ((refl, refl, refl), ((refl, refl, refl, refl), ((refl, refl), ((refl, refl), ((refl, refl), ((refl, refl), ((refl, refl), ((refl, refl), ((refl, refl), ((refl, refl), ((refl, refl), ((refl, refl), ((refl, refl), ((refl, refl), ((refl, refl), ((refl, refl), ((λ c. refl, refl), ((λ c. refl, refl), tt)))))))))))))))))))))),
+  ((refl, refl), ((refl, refl), ((refl, refl), ((refl, refl), ((refl, refl), tt))))),
   ((refl, refl), ((refl, refl), ((λ c. refl, refl), ((refl, refl), tt)))),
 )
 

@@ -67,7 +67,8 @@ Holds s (spares calls c) = (cells (stateAfter s calls) c ≡ cells s c) × Answe
 Holds s (exchanges before a b after) =
     (stateAfter s (before ++ b ∷ a ∷ after) ≡ stateAfter s (before ++ a ∷ b ∷ after))
     × Answered s (before ++ a ∷ b ∷ after) × Answered s (before ++ b ∷ a ∷ after)
-Holds s (shareCell before a b) = Apart model (cells (stateAfter s before)) (a .step) (b .step) → ⊥
+Holds s (shareCell before a b) =
+    (Apart model (cells (stateAfter s before)) (a .step) (b .step) → ⊥) × Answered s (before ++ a ∷ b ∷ [])
 Holds s (refuses before x after) =
     ((c : Cell) → storesIn model (cells (stateAfter s before)) (x .step) c ≡ false)
     × (Module.step (stateAfter s before) (x .step) ≡ stateAfter s before)

@@ -1,13 +1,20 @@
 -- The sentences, from three states: as a module leaves the factory, in use, and invalid. A block is given in every byte, and so is its
 -- response; a refusal is named by document 01's number.
 use Prim.Native.Nat.{ℕ}
-use mathlib.Core.List.{List, [], _∷_, _++_}
+use mathlib.Core.Path.{_≡_}
+use mathlib.Core.List.{List, [], _∷_, _++_, map}
 use lib.ListN.{replicate}
+use Rattle.sequence.specs.Machine.{run}
+use Rattle.cdi_item.specs.declared.Value.{Value}
+use Rattle.cdi_item.specs.Values.{valueBytes}
 use Rattle.cdi_state.specs.declared.ModuleState.{ModuleState}
-use Rattle.cdi_state.specs.State.{defaultSettings, emptySlot, factoryState}
+use Rattle.cdi_state.specs.State.{defaultSettings, emptySlot, factoryState, ArrayLengths}
 use Rattle.cdi_store.specs.Store.{settingStored}
-use Rattle.cdi_model.specs.Cells.{nv, working, messageSelect, setting, input, slot, events, hardwarePower, Cell, copyOf, single}
-use Rattle.paper_examples.specs.Examples.{response, refusal}
+use Rattle.cdi_model.specs.Cells.{Copy, nv, working, messageSelect, setting, input, slot, events, hardwarePower, Cell, copyOf, single}
+use Rattle.cdi_model.specs.Step.{Step}
+use Rattle.cdi_model.specs.Model.{model}
+use Rattle.cdi_module.specs.Machine.{cells, machine}
+use Rattle.paper_examples.specs.Examples.{response, refusal, asStep}
 use Rattle.sequence_examples.specs.Sentences.{Call, on, powered, Sentence, leaves, storesInTurn, keeps, spares, exchanges, shareCell, refuses, undo, AllHold}
 
 -- ---- calls
@@ -54,6 +61,11 @@ abbrev programInput2 : Call
 programInput2 =
     on (0x80 ∷ 0x55 ∷ 0x88 ∷ 0x04 ∷ 0x16 ∷ 0x02 ∷ 0x07 ∷ 0x02 ∷ 0x00 ∷ 0xFF ∷ 0xFE ∷ [])
     (response (0x80 ∷ 0x55 ∷ 0x8A ∷ 0xC0 ∷ 0x00 ∷ 0x04 ∷ 0x16 ∷ 0x02 ∷ 0x07 ∷ 0x02 ∷ 0x00 ∷ 0xFF ∷ 0xFE ∷ []))
+
+abbrev programOther2 : Call
+programOther2 =
+    on (0x80 ∷ 0x55 ∷ 0x88 ∷ 0x04 ∷ 0x16 ∷ 0x02 ∷ 0x05 ∷ 0x08 ∷ 0x01 ∷ 0x00 ∷ 0x00 ∷ [])
+    (response (0x80 ∷ 0x55 ∷ 0x8A ∷ 0xC0 ∷ 0x00 ∷ 0x04 ∷ 0x16 ∷ 0x02 ∷ 0x05 ∷ 0x08 ∷ 0x01 ∷ 0x00 ∷ 0x00 ∷ []))
 
 abbrev writeInput2 : Call
 writeInput2 =
@@ -136,7 +148,7 @@ factorySentences =
     exchanges (programMessage ∷ []) writeMessage7 (powered 0) (readMessage 0x06 ∷ []) ∷
     -- these pairs share a cell: two Programs of one input, a Program and a Read of it, Set Default and a Write of a setting, Erase and a Program of a slot,
     -- a power-up and a Program of a setting, a Write of the control source and a Read of the status
-    shareCell [] programInput2 programInput2 ∷
+    shareCell [] programInput2 programOther2 ∷
     shareCell [] programInput1 readInput1 ∷
     shareCell (programMessage ∷ []) setDefault writeMessage ∷
     shareCell (programSlot7 ∷ []) eraseAll programSlot39 ∷
@@ -211,6 +223,17 @@ invalidSentences =
     -- so any two can be exchanged
     exchanges (readRefused ∷ []) eraseRefused (powered 2) (readRefused ∷ []) ∷
     []
+
+-- ---- for every state, every number of commands and every value: the yard's own complaint
+-- a Program of the second input
+abbrev pub programSecond : Value → Step
+programSecond v = asStep (0x80 ∷ 0x55 ∷ 0x88 ∷ 0x04 ∷ 0x16 ∷ 0x02 ∷ valueBytes v)
+
+-- no number of them alters the first input, in either copy
+abbrev pub FirstUnaltered : Type 0
+FirstUnaltered =
+    (s : ModuleState) → ArrayLengths s → (values : List Value) (copy : Copy)
+    → cells (run model machine s (map programSecond values)) (copyOf copy (input 1)) ≡ cells s (copyOf copy (input 1))
 
 -- All sentences hold.
 abbrev pub Sentences : Type 0
