@@ -163,6 +163,8 @@ def uncited(fact, result, given, known):
         return "has the same text on both sides"
     if len(sides) == 2 and gives(sides[0], result, given) == gives(sides[1], result, given):
         return "is no equation between what the function gives and what it was given"
+    if len(sides) == 2 and cited(sides[0].split()[0], known) and sides[0].split()[0] == sides[1].split()[0]:
+        return "has one definition around both sides"
     as_it_is = len(sides) == 2 and sides[0] == result and sides[1] in dict(given)
     if not (as_it_is or cited(fact if len(sides) == 2 else fact.split()[0], known)):
         return "cites no definition"
@@ -240,6 +242,7 @@ WEAKENED = (
     ("", "", []),
     ("r .number ≡ two state", "r .number ≡ r .number", ["fact has the same text on both sides"]),
     ("r .number ≡ two state", "two (r .number) ≡ two ((r .number))", ["fact is no equation between what the function gives and what it was given"]),
+    ("r .number ≡ two state", "two (r .number) ≡ two (two state)", ["fact has one definition around both sides"]),
     ("r .state ≡ step state", "step state ≡ state", ["fact is no equation between what the function gives and what it was given", "does not speak of r .state"]),
     ("r .number ≡ two state", "(r .number ≡ two state) ⊎ Holds state", ["fact is neither an equation nor one definition"]),
     ("r .number ≡ two state", "r .number ≡ 0", ["fact cites no definition"]),

@@ -22,7 +22,7 @@ use Rattle.replay_text.proofs.Laws.{pieces, pieces-then, unfinished-kept, last-
 use Rattle.replay_text.proofs.Theorem.{replay-theorem}
 use Rattle.replay.specs.Program.{bufferSize, isEnd, charsAfter, answers, leftAfter, Stays, ReadsOn}
 use Rattle.replay.proofs.Left.{not-finished, at-last}
-use Rattle.replay.specs.Run.{Turns, start, then, charsRead, readsOf, textOf, used-up, Stops, stop, runReads, runText, RunTheorem}
+use Rattle.replay.specs.Run.{Turns, start, then, charsRead, readsOf, textOf, used-up, Stops, stop, runReads, runText, lastText, RunTheorem}
 
 -- where the input has ended, what is there are whole lines
 abbrev Finished : Bool → List ℕ → Type 0
@@ -155,5 +155,9 @@ all-made : {output : List ℕ} {after : ModuleState} {rest : List ℕ} {endedAft
     → Stops output after rest endedAfter false true count false → Turns 18446744073709551615 after rest endedAfter
 all-made (stop turns turn used-up) = then turns turn
 
+buffer-text : {output : List ℕ} {after : ModuleState} {rest : List ℕ} {endedAfter done printed failed : Bool} {count : ℕ}
+    (run : Stops output after rest endedAfter done printed count failed) → take (length (lastText run)) output ≡ lastText run
+buffer-text (stop turns turn last) = turn .text
+
 pub run-theorem : RunTheorem
-run-theorem = record { whole = whole-text; nothing-left = none-left; all-turns = all-made; front = front-text }
+run-theorem = record { whole = whole-text; nothing-left = none-left; all-turns = all-made; front = front-text; in-buffer = buffer-text }

@@ -75,6 +75,11 @@ module _ {output : List ℕ} {after : ModuleState} {rest : List ℕ} {endedAfter
   abbrev pub runText : Stops output after rest endedAfter true true count false → List ℕ
   runText (stop {state = state} {chars = chars} turns turn last) = textOf turns ++ linesText state (answers state chars)
 
+-- the text that the last turn has for its lines, whatever the reason why it is the last
+abbrev pub lastText : {output : List ℕ} {after : ModuleState} {rest : List ℕ} {endedAfter done printed failed : Bool} {count : ℕ}
+    → Stops output after rest endedAfter done printed count failed → List ℕ
+lastText (stop {state = state} {chars = chars} turns turn last) = linesText state (answers state chars)
+
 pub record RunTheorem : Type 0 where
   -- if all is done, what is printed is the reference model's text for all that is read
   pub whole : {output : List ℕ} {after : ModuleState} {rest : List ℕ} {endedAfter : Bool} {count : ℕ}
@@ -88,3 +93,6 @@ pub record RunTheorem : Type 0 where
   -- at any time, what is printed is the front of the model's text for what is read
   pub front : {n : ℕ} {state : ModuleState} {chars : List ℕ} {ended : Bool} (turns : Turns n state chars ended)
       → take (length (textOf turns)) (modelReplayed (joined (readsOf turns))) ≡ textOf turns
+  -- and the text of the last turn is at the front of the output buffer, which is where `print` takes it from
+  pub in-buffer : {output : List ℕ} {after : ModuleState} {rest : List ℕ} {endedAfter done printed failed : Bool} {count : ℕ}
+      (run : Stops output after rest endedAfter done printed count failed) → take (length (lastText run)) output ≡ lastText run
