@@ -18,7 +18,7 @@ use Rattle.cdi_model.specs.Tight.{everyCell, isIn}
 use Rattle.cdi_model.specs.Apart.{leaves, areApart}
 use Rattle.cdi_model.proofs.Cells.{key-refl, same-eq}
 use Rattle.cdi_model.proofs.Lawful.{refused-stores-none, refused-touches-none, decision-touches-real}
-use Rattle.cdi_model.proofs.Tight.{every-cell}
+use Rattle.cdi_model.proofs.Tight.{every-cell, all-true}
 
 -- a refused step is apart from every step, before it and behind it
 pub refused-first : (s : Cells) (a b : Step) → accepts model s a ≡ false → Apart model s a b
@@ -125,10 +125,6 @@ at-cell ok (d ∷ l) c e is =
     let both = and-eq-true-iff (ok d) (all ok l) .0 e in
     either (same c d) (isIn c l) is (λ q. rw (same-eq c d q) (both .0)) (λ q. at-cell ok l c (both .1) q)
 
-at-all : (ok : Cell → Bool) → ((c : Cell) → ok c ≡ true) → (l : List Cell) → all ok l ≡ true
-at-all ok h [] = refl
-at-all ok h (c ∷ l) = and-eq-true-iff (ok c) (all ok l) .1 (h c, at-all ok h l)
-
 off-false : (t : Bool) → not t ≡ true → t ≡ false
 off-false true e = cc
 off-false false e = refl
@@ -156,6 +152,6 @@ apart-is-computed s a b =
         first-stores = λ c p. off-false (reads e c || stores e c) (implied (stores d c) (not (reads e c || stores e c)) (at t c (stored-cell d c p) .0) p);
         second-stores = λ c p. off-false (reads d c || stores d c) (implied (stores e c) (not (reads d c || stores d c)) (at t c (stored-cell e c p) .1) p);
       },
-      λ h. at-all ok (λ c. and-eq-true-iff (leaves d e c) (leaves e d c) .1
+      λ h. all-true ok (λ c. and-eq-true-iff (leaves d e c) (leaves e d c) .1
           (left (stores d c) (reads e c || stores e c) (h .first-stores c), left (stores e c) (reads d c || stores d c) (h .second-stores c))) everyCell,
     )

@@ -83,7 +83,7 @@ abbrev serves : ℕ → Bool
 serves control =
     isValid (base control) && all (differIn (base control) other) everyCell && all (λ c. isValid (changed (base control) c)) everyCell
 
-all-true : (f : Cell → Bool) → ((c : Cell) → f c ≡ true) → (l : List Cell) → all f l ≡ true
+pub all-true : (f : Cell → Bool) → ((c : Cell) → f c ≡ true) → (l : List Cell) → all f l ≡ true
 all-true f h [] = refl
 all-true f h (c ∷ l) = and-eq-true-iff (f c) (all f l) .1 (h c, all-true f h l)
 
