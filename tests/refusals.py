@@ -1,6 +1,7 @@
-"""The refusals of document 01, "Numbers that a refusal carries": the one table that sources, definitions,
-header, documents and tests are held against. A new number is a line of REFUSALS and a place in the orders
-of the entries that give it; a new entry is a line of ORDERS.
+"""The refusals of document 01, "Numbers that a refusal carries", and of document 02's requests: the one table
+that sources, definitions, headers, documents and tests are held against. A new number is a line of REFUSALS
+and a place in the orders of the entries that give it; a new entry is a line of ORDERS; a new library is a
+name in LIBRARIES.
 """
 
 import collections
@@ -25,13 +26,22 @@ REFUSALS = (
     Refusal(10, "NOT_PERMITTED", "the item does not permit the command"),
     Refusal(11, "WRONG_INDEX", "the index is wrong"),
     Refusal(12, "VALUE_NOT_ACCEPTED", "the item does not accept the value"),
-    Refusal(13, "FRAME_BUFFER_SHORT", "the buffer for a command's frame has fewer than 27 bytes"),
+    Refusal(
+        13,
+        "FRAME_BUFFER_SHORT",
+        "a writer's buffer is too short: under 27 bytes for a command's frame, "
+        "under the packet's own length for a packet",
+    ),
     Refusal(14, "WAKE_COUNT_OVER", "the wake count is over 16"),
     Refusal(15, "READING_COUNT", "there is no reading, or there are over 16"),
     Refusal(16, "READING_OVER", "a reading is over 4,095"),
     Refusal(17, "IMAGE_LENGTH", "the image buffer does not have 249 bytes"),
     Refusal(18, "IMAGE_MARK", "the image's mark is wrong"),
     Refusal(19, "IMAGE_VERSION", "the image's version is not 1"),
+    Refusal(24, "PACKET_ENDS", "the packet's first or last byte is wrong, or the block is empty"),
+    Refusal(25, "PACKET_LENGTH", "the packet's length bytes do not give the block's length"),
+    Refusal(26, "PACKET_SUM", "the packet's sum is wrong"),
+    Refusal(27, "PACKET_CONTENT", "the packet's type is not served, or what it holds is not accepted"),
 )
 NUMBERS = {refusal.name: refusal.number for refusal in REFUSALS}
 
@@ -40,6 +50,13 @@ NUMBERS = {refusal.name: refusal.number for refusal in REFUSALS}
 # for any other wrong length.
 PAYLOAD = "7, 8, 9, 10, 8, 11, 12"
 BLOCK = f"3 to 6, {PAYLOAD}"
+
+# The numbers of a Coyote packet that is read, and of one that is written.
+PACKET_READ = "24, 25, 26, 27"
+PACKET_WRITTEN = "27, 13"
+
+# The C libraries. The name of an entry begins with its library's; the replay program is no library's.
+LIBRARIES = "cdi", "coyote"
 
 # The numbers of each entry. The replay program has 22 bytes for each response and starts from a valid
 # state.
@@ -51,6 +68,13 @@ ORDERS = {
     "cdi_encode_command": f"13, 14, 3, {PAYLOAD}",
     "cdi_readout": "15, 16",
     "replay": BLOCK,
+    "coyote_decode": PACKET_READ,
+    "coyote_encode_addressed": PACKET_WRITTEN,
+    "coyote_encode_read_memory": PACKET_WRITTEN,
+    "coyote_encode_success": PACKET_WRITTEN,
+    "coyote_encode_failure": PACKET_WRITTEN,
+    "coyote_export_charge": PACKET_WRITTEN,
+    "coyote_import_charge": PACKET_READ,
 }
 
 
@@ -67,3 +91,14 @@ def sequence(entry):
 
 # The numbers that an entry can give.
 OWN = {entry: {*sequence(entry)} for entry in ORDERS}
+
+
+def entries_of(library):
+    """The entries of a library that refuse."""
+    return [entry for entry in ORDERS if entry.startswith(f"{library}_")]
+
+
+def numbers_of(library):
+    """The refusals that a library's entries can give: the numbers by their names."""
+    own = {number for entry in entries_of(library) for number in OWN[entry]}
+    return {name: number for name, number in NUMBERS.items() if number in own}

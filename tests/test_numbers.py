@@ -1,6 +1,6 @@
 #!/usr/bin/env python3
 """Provokes every number of document 01, "Numbers that a refusal carries", through every entry that
-gives it: the functions of the C library that refuse, and the replay program.
+gives it: the functions of the CDI library that refuse, and the replay program.
 
 refusals.py has each entry's numbers in their order. The cases are written from the paper, as bytes: what
 is refused, at the border where there is one, and what lies just inside and is accepted. If two refusals
@@ -24,7 +24,7 @@ from library import Problem, run_test, same_sets
 from logs import dump, fill_cells, log_of, text_of
 from payloads import frame
 from reference import FACTORY_STATE
-from refusals import NUMBERS, ORDERS, OWN, places
+from refusals import ORDERS, OWN, entries_of, numbers_of, places
 from states import FILLED, FILLED_IMAGE, NO_MODE, changed, packed, with_bytes
 
 # Neighbours in an order that can't both apply, with the entries, and why.
@@ -125,6 +125,10 @@ class Replay(collections.namedtuple("Replay", "block")):
         if words[0] == "refused":
             return Outcome(int(words[1]), 0, before, after)
         return Outcome(0, len(words), before, after)
+
+
+# The entries that have to be called here: those of the CDI library that refuse, and the program.
+CALLED = *entries_of("cdi"), Replay.entry
 
 
 class Numbers(Comparison):
@@ -363,19 +367,19 @@ def orders():
 
 
 def check_numbers(numbers):
-    """Each entry gives each of its numbers, and together they give all."""
+    """Each entry gives each of its numbers, and together they give all of the CDI library's."""
     for number, refused, accepted in cases():
         for call in refused:
             numbers.refuses(number, call)
         for call in accepted:
             numbers.accepts(call)
-    own = {(entry, number) for entry in OWN for number in OWN[entry]}
+    own = {(entry, number) for entry in CALLED for number in OWN[entry]}
     same_sets("refusals by entry", own, "refusals.py", set(numbers.refusals), "this test")
     given = {number for _, number in own}
-    same_sets("numbers", {*NUMBERS.values()}, "REFUSALS", given, "ORDERS")
+    same_sets("numbers", {*numbers_of("cdi").values()}, "REFUSALS", given, "ORDERS")
     refused = sum(numbers.refusals.values())
     return (
-        f"{refused} refusals of {len(given)} numbers through {len(ORDERS)} entries, "
+        f"{refused} refusals of {len(given)} numbers through {len(CALLED)} entries, "
         f"{numbers.inside} accepted beside them"
     )
 
@@ -400,8 +404,8 @@ def count_neighbours(pairs_seen):
     they can't be."""
     apart = {(entry, *pair): why for *pair, entries, why in APART for entry in entries}
     found = 0
-    for entry, order in ORDERS.items():
-        for pairs in neighbours(order):
+    for entry in CALLED:
+        for pairs in neighbours(ORDERS[entry]):
             seen = {pair for pair in pairs if (entry, *pair) in pairs_seen}
             reasons = {apart.pop((entry, *pair), None) for pair in pairs} - {None}
             if not seen and not reasons:

@@ -1,6 +1,7 @@
 #!/usr/bin/env python3
-"""refusals.py, the table of document 01's "Numbers that a refusal carries", against all that repeats it: the constants, the
-definitions, the C header, reference.py, the README and docs/TRACE.md. No other source has a refusal as a bare number."""
+"""refusals.py, the table of document 01's "Numbers that a refusal carries" and of document 02's numbers, against all that repeats
+it: the constants, the definitions, the C headers, the references in Python, the README and docs/TRACE.md. No other source has a
+refusal as a bare number."""
 
 import re
 import sys
@@ -8,14 +9,19 @@ import sys
 sys.dont_write_bytecode = True  # leaves no files beside the tests
 
 from library import ROOT, Problem, run_test, same_sets
-from refusals import NUMBERS, ORDERS, REFUSALS, sequence
+from refusals import LIBRARIES, NUMBERS, ORDERS, OWN, REFUSALS, entries_of, numbers_of, sequence
 
 CONSTANTS = "crates/refusal/src/lib.rt"
 DEFINITIONS = "crates/refusal/specs/Refusal.antt"
-HEADER = "include/cdi.h"
-REFERENCE = "tests/reference.py"
 README = "README.md"
 TRACE = "docs/TRACE.md"
+
+# Each library's header, and its reference with the head of the section that has the numbers.
+HEADERS = {library: f"include/{library}.h" for library in LIBRARIES}
+REFERENCES = {
+    "cdi": ("tests/reference.py", '# ---- 01, "Numbers that a refusal carries"'),
+    "coyote": ("tests/coyote_reference.py", "# ---- Refusals"),
+}
 
 # A refusal that is written as a number, in the source and in the definitions.
 BARE = {
@@ -30,10 +36,11 @@ def read(path):
     return (ROOT / path).read_text(encoding="utf-8")
 
 
-def held(path, text, row, none, named=str):
-    """Holds the names and numbers that a pattern finds in a file's text against the table; `none` is its name for 0."""
+def held(path, text, row, none, named=str, numbers=NUMBERS):
+    """Holds the names and numbers that a pattern finds in a file's text against the table, or its part `numbers`; `none` is the
+    file's name for 0."""
     found = re.findall(row, text, re.M)
-    wanted = {(none, 0), *((named(name), number) for name, number in NUMBERS.items())}
+    wanted = {(none, 0), *((named(name), number) for name, number in numbers.items())}
     same_sets("refusals", wanted, "refusals.py", {(name, int(number)) for name, number in found}, path)
     if len(found) != len(wanted):
         raise Problem(f"{path} has a refusal twice: {sorted(found)}")
@@ -49,10 +56,14 @@ def camel(name):
 
 
 def check_table():
-    """The table's numbers rise, and no name is there twice."""
+    """The table's numbers rise, and no name is there twice. The orders have these numbers and no other, and each order is that of a
+    library's entry or of the program."""
     numbers = [refusal.number for refusal in REFUSALS]
     if numbers != sorted({*numbers}) or len(NUMBERS) != len(REFUSALS):
         raise Problem(f"a number or a name is there twice, or the numbers do not rise: {REFUSALS}")
+    same_sets("numbers", {*numbers}, "REFUSALS", {number for own in OWN.values() for number in own}, "ORDERS")
+    entries = {entry for library in LIBRARIES for entry in entries_of(library)}
+    same_sets("entries", {*ORDERS}, "ORDERS", {"replay", *entries}, "LIBRARIES")
     return f"{len(REFUSALS)} refusals"
 
 
@@ -72,18 +83,36 @@ def check_definitions():
     return held(DEFINITIONS, read(DEFINITIONS), r"^(\w+) = (\d+)$", "none", camel)
 
 
+def held_in_header(library):
+    path, prefix = HEADERS[library], f"{library.upper()}_REFUSAL_"
+    row = r"^    (\w+_REFUSAL_\w+) = (\d+),? "
+    return held(path, read(path), row, f"{prefix}NONE", lambda name: prefix + name, numbers_of(library))
+
+
 def check_header():
-    return held(HEADER, read(HEADER), r"^    CDI_REFUSAL_(\w+) = (\d+),? ", "NONE")
+    """Each header has the refusals that its library's entries can give, under the library's prefix; there is no other header."""
+    there = {f"include/{path.name}" for path in (ROOT / "include").iterdir()}
+    same_sets("headers", {*HEADERS.values()}, "refusals.py", there, "include")
+    return ", ".join(map(held_in_header, LIBRARIES))
+
+
+def section_of(text, head):
+    """The section of a Python source that begins with a comment, up to the next such comment."""
+    return text.partition(f"\n{head}")[2].partition("\n# ---- ")[0]
 
 
 def check_reference():
-    section = read(REFERENCE).partition('# ---- 01, "Frame"')[0]
-    return held(REFERENCE, section, r"^([A-Z_]+) = (\d+)$", "ACCEPTED")
+    """So has each library's reference."""
+    same_sets("libraries", {*LIBRARIES}, "refusals.py", {*REFERENCES}, "REFERENCES")
+    return ", ".join(
+        held(path, section_of(read(path), head), r"^([A-Z_]+) = (\d+)$", "ACCEPTED", numbers=numbers_of(library))
+        for library, (path, head) in REFERENCES.items()
+    )
 
 
 def check_readme():
     """What the README says of a number, as `refused 12` is `CDI_REFUSAL_...`."""
-    said = re.findall(r"`refused (\d+)` is\s+`CDI_REFUSAL_(\w+)`", read(README))
+    said = re.findall(r"`refused (\d+)` is\s+`[A-Z]+_REFUSAL_(\w+)`", read(README))
     wrong = [(number, name) for number, name in said if NUMBERS.get(name) != int(number)]
     if wrong or not said:
         raise Problem(f"{README} says nothing of a refusal's number, or something wrong: {wrong}")
@@ -104,11 +133,11 @@ def check_trace():
 
 def functions_in(header):
     """The functions of a header, each with the comment above it."""
-    return {name: comment for comment, name in re.findall(r"^/\*((?:(?!\*/)[\s\S])*)\*/\n\w+ (cdi_\w+)\(", header, re.M)}
+    return {name: comment for comment, name in re.findall(r"^/\*((?:(?!\*/)[\s\S])*)\*/\n\w+ (\w+)\(", header, re.M)}
 
 
 # A refusal's name in a comment, or the words that take the rest from another function's order.
-SAID = re.compile(r"from ([A-Z_]+) on as for (cdi_\w+)|\b([A-Z][A-Z_]+)\b")
+SAID = re.compile(r"from ([A-Z_]+) on as for ([a-z]\w+)|\b([A-Z][A-Z_]+)\b")
 
 
 def order_said(comments, function):
@@ -123,19 +152,23 @@ def order_said(comments, function):
     return numbers
 
 
-def check_header_orders():
-    """Each function's comment names its refusals in the table's order; without one it refuses nothing, and says so."""
-    comments = functions_in(read(HEADER))
-    entries = {entry for entry in ORDERS if entry.startswith("cdi_")}
-    for function in sorted(entries | set(comments)):
+def orders_in(header, entries):
+    """Holds what a header's comments say against the orders of its entries."""
+    comments = functions_in(read(header))
+    for function in sorted({*entries, *comments}):
         if function not in comments:
-            raise Problem(f"{HEADER} has no function {function} with a comment")
+            raise Problem(f"{header} has no function {function} with a comment")
         wanted, said = sequence(function) if function in entries else [], order_said(comments, function)
         if wanted != said:
-            raise Problem(f"{HEADER}: {function} refuses with {wanted}, and its comment says {said}")
+            raise Problem(f"{header}: {function} refuses with {wanted}, and its comment says {said}")
         if not wanted and "refuses nothing" not in comments[function]:
-            raise Problem(f"{HEADER}: {function} refuses nothing, and its comment does not say so")
-    return f"{len(entries)} orders in {HEADER}"
+            raise Problem(f"{header}: {function} refuses nothing, and its comment does not say so")
+    return f"{len(entries)} orders in {header}"
+
+
+def check_header_orders():
+    """Each function's comment names its refusals in the table's order; without one it refuses nothing, and says so."""
+    return ", ".join(orders_in(header, entries_of(library)) for library, header in HEADERS.items())
 
 
 def check_header_sample():
