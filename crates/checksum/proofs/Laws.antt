@@ -1,0 +1,65 @@
+-- The two laws of a sum at the end of a packet, over where it begins: what a writer puts there passes, and nothing else does; a packet
+-- that passes does not pass with one summed byte changed.
+-- Assumes nothing.
+use Prim.Native.Nat.{ℕ, _+_, _-_, _<_, _≤_}
+use mathlib.Core.Path.{_≡_, refl, sym, ap, _∙_}
+use mathlib.Core.Bool.{true, false}
+use mathlib.Core.List.{List, [], _∷_}
+use native.Mathlib.Omega.{arith}
+use borrow.Author.Tests.{eq-eqb, ne-eqb, eqb-true}
+use lib.ListN.{length, getD, set, take, drop, length-append, length-set, length-drop, take-append-drop}
+use lib.Seq.{take-at, getD-at, take-set-lt, getD-set-other, getD-take, getD-drop, drop-set-add, length-take-le}
+use Rattle.logic.proofs.Bytes.{Bytes, bytes-take, bytes-drop}
+use Rattle.logic.proofs.Rest.{one-more, nothing-left}
+use Rattle.checksum.specs.Checksum.{byteSum, sumFrom, summed, sumHolds}
+use Rattle.checksum.proofs.Sums.{sum-tells}
+
+module _ (start last : ℕ) (bytes : List ℕ) where
+  pub summed-length : length (summed start last bytes) ≡ length bytes + 2
+  summed-length = length-append bytes _
+
+  -- what a writer puts at the end passes
+  pub written-passes : sumHolds start (summed start last bytes) ≡ true
+  written-passes =
+      let n : length (summed start last bytes) - 2 ≡ length bytes = omega (arith, summed-length) in
+      rw (n, take-at bytes (sumFrom start bytes ∷ last ∷ []) (length bytes), getD-at bytes (sumFrom start bytes) (last ∷ []) 0 (length bytes))
+      (eq-eqb (sumFrom start bytes) (sumFrom start bytes) refl)
+
+-- and a packet that passes was written so
+pub passes-as-written : (start : ℕ) (packet : List ℕ) → 2 ≤ length packet → sumHolds start packet ≡ true
+    → packet ≡ summed start (getD packet (length packet - 1) 0) (take (length packet - 2) packet)
+passes-as-written start packet h e =
+    let n = length packet - 2 in
+    let j : n + 1 ≡ length packet - 1 = omega arith in
+    cc (
+      take-append-drop n packet,
+      one-more packet n 0 (omega arith),
+      one-more packet (n + 1) 0 (omega arith),
+      nothing-left packet (n + 1 + 1) (omega arith),
+      eqb-true (sumFrom start (take n packet)) (getD packet n 0) e,
+    )
+
+-- a packet that passes does not pass with one byte changed, of those that are summed
+module _ (start : ℕ) (packet : List ℕ) (i b : ℕ) (all : Bytes packet) (byte : b < 256) where
+  pub change-noticed : start ≤ i → i < length packet - 2 → (b ≡ getD packet i 0 → ⊥) → sumHolds start packet ≡ true
+      → sumHolds start (set packet i b) ≡ false
+  change-noticed h l other e =
+      let n = length packet - 2 in
+      let front = take n packet in
+      let rest = drop start front in
+      let size = length-take-le n packet (omega arith) in
+      let place : start + (i - start) ≡ i = omega arith in
+      let changed : drop start (take n (set packet i b)) ≡ set rest (i - start) b =
+      ap (drop start) (take-set-lt n packet i b l) ∙
+      ap (λ (j : ℕ). drop start (set front j b)) (sym place) ∙
+      drop-set-add start front (i - start) b
+      in
+      let same : getD rest (i - start) 0 ≡ getD packet i 0 =
+      getD-drop start front (i - start) 0 ∙ ap (λ (j : ℕ). getD front j 0) place ∙ getD-take n packet i 0 l
+      in
+      rw (length-set packet i b, changed, getD-set-other packet i n b 0 (λ q. omega arith))
+      (ne-eqb (byteSum (set rest (i - start) b)) (getD packet n 0) (λ q.
+      other
+      (sum-tells rest (i - start) b (bytes-drop start front (bytes-take n packet all)) byte (omega (arith, length-drop start front))
+      (q ∙ sym (eqb-true (byteSum rest) (getD packet n 0) e)) ∙
+      same)))
