@@ -1,0 +1,10 @@
+pub mod Literal
+pub mod Targets
+pub mod Lengths
+pub mod Fits
+pub mod Frame
+pub mod ReadBack
+pub mod Accepted
+pub mod Refusals
+pub mod Whole
+pub mod Exact
