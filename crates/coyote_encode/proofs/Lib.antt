@@ -1,0 +1,3 @@
+pub mod Enclosed
+pub mod Encoded
+pub mod Laws
