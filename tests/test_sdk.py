@@ -1,10 +1,13 @@
 #!/usr/bin/env python3
-"""The C SDK as its users meet it: ./sdk builds it, the header's numbers are document 01's, its structs are laid out as the structs by
-which the tests call the library, its functions are those that were agreed with the controllers and all that the library
-exports, and the example controller builds without a warning and prints what document 01 has it print."""
+"""The C SDK as its users meet it, against interfaces.py, which has what was agreed with the controllers. ./sdk builds it. Of each
+library the header's numbers are the documents', its structs are laid out as the structs by which the tests call the library, its
+functions are those that were agreed and all that the library exports, and the library keeps nothing. The headers compile alone and
+together, in C and in C++. Each example builds without a warning and prints what the documents have it print."""
 
 import ctypes
+import itertools
 import re
+import shutil
 import subprocess
 import sys
 import tempfile
@@ -13,92 +16,12 @@ sys.dont_write_bytecode = True  # leaves no files beside the tests
 
 import library
 import reference
-import states
-from entries import OUTCOME, READOUT_RESULT, SIGNATURES
-from refusals import REFUSALS
+from interfaces import CDI, EXAMPLES, INTERFACES, SDK
+from refusals import numbers_of
 
-SDK = library.ROOT / "target" / "sdk"
-HEADER = SDK / "include" / "cdi.h"
-ARCHIVE = SDK / "lib" / "libcdi.a"
-SHARED = SDK / "lib" / "libcdi.so"
-PACKAGE = SDK / "lib" / "pkgconfig" / "cdi.pc"
-STRICT = ["-std=c11", "-Wall", "-Wextra", "-Wpedantic", "-Werror"]
-
-# Document 01's commands, answers and items, and its limits, under the names that the header gives them.
-COMMANDS = {"READ": 0x01, "WRITE": 0x02, "READ_NV": 0x03, "PROGRAM": 0x04, "SET_DEFAULT": 0x81, "ERASE_ALL": 0x82}
-RESPONSES = {"ACK": 0xC0, "READ": 0xC1, "READ_NV": 0xC2}
-ITEMS = {
-    "NAME": 0x01,
-    "FIRMWARE": 0x02,
-    "SERIAL": 0x03,
-    "ADDRESS": 0x10,
-    "LINE_MASK": 0x11,
-    "LATCH_MASK": 0x12,
-    "TX_POWER": 0x13,
-    "CONTROL_SOURCE": 0x14,
-    "MESSAGE_SELECT": 0x15,
-    "ANALOG_INPUT": 0x16,
-    "PAIRED_MODULE": 0x18,
-    "LINES": 0x20,
-    "RSSI": 0x21,
-    "LADJ": 0x22,
-    "STATUS": 0x23,
-    "INTERRUPT_MASK": 0x25,
-    "EVENTS": 0x26,
-}
-LIMITS = {
-    "CDI_RESPONSE_BUFFER_MIN": 22,
-    "CDI_FRAME_BUFFER_MIN": 27,
-    "CDI_IMAGE_SIZE": 249,
-    "CDI_WAKE_LIMIT": 16,
-    "CDI_NAME_LENGTH": 17,
-    "CDI_INPUT_COUNT": 2,
-    "CDI_SLOT_COUNT": 40,
-    "CDI_READINGS_MAX": 16,
-    "CDI_READING_MAX": 4095,
-}
-
-# The functions, as they were agreed with the controllers.
-FUNCTIONS = """
-cdi_module_state cdi_factory(void);
-cdi_outcome cdi_execute(cdi_module_state *state, const uint8_t *block, size_t block_len, uint8_t *response, size_t response_len);
-uint8_t cdi_power_up(cdi_module_state *state);
-cdi_outcome cdi_save(const cdi_module_state *state, uint8_t *image, size_t image_len);
-uint8_t cdi_load(cdi_module_state *state, const uint8_t *image, size_t image_len);
-cdi_outcome cdi_encode_command(const uint8_t *payload, size_t payload_len, size_t wake, uint8_t *frame, size_t frame_len);
-cdi_readout_result cdi_readout(const uint16_t *readings, size_t count, int16_t offset);
-uint8_t cdi_percent(uint16_t readout);
-"""
-
-# The header's structs, and the tests' own.
-STRUCTS = {
-    "cdi_slot": states.SLOT,
-    "cdi_analog_input": library.ANALOG_INPUT,
-    "cdi_settings": states.SETTINGS,
-    "cdi_hardware_selection": states.HARDWARE_SELECTION,
-    "cdi_stored": states.STORED,
-    "cdi_working": states.WORKING,
-    "cdi_live": states.LIVE,
-    "cdi_module_state": states.STATE,
-    "cdi_outcome": OUTCOME,
-    "cdi_readout_result": READOUT_RESULT,
-}
-
-# What the controller prints, worked out by hand from document 01.
-PRINTED = """\
-block      80 FF FF 55 83 04 15 06
-response   80 55 85 C0 00 04 15 06
-block      80 FF FF 55 88 04 16 02 05 02 01 00 00
-response   80 55 8A C0 00 04 16 02 05 02 01 00 00
-block      80 FF FF 55 83 02 13 EC
-response   80 55 85 C0 00 02 13 EC
-encode     refused 12
-readout    57016 is 87 percent
-image      249 bytes, mark SWB
-loaded     message select 6, power 0 dBm
-load       refused 19
-done
-"""
+WARNINGS = ["-Wall", "-Wextra", "-Wpedantic", "-Werror"]
+# Each language that a header serves: its compiler, its standard and the ending of its sources.
+C, CPP = ("gcc", "-std=c11", ".c"), ("g++", "-std=c++11", ".cpp")
 
 
 def expect(what, wanted, came):
@@ -115,66 +38,79 @@ def output(*words, **options):
     return done.stdout
 
 
-def built_header():
-    """The header of the SDK, which is built where it is not up to date."""
+def built_header(interface):
+    """The header of a library in the SDK, which is built where it is not up to date."""
     library.sdk()
-    return HEADER.read_text(encoding="utf-8")
+    return (SDK / interface.header).read_text(encoding="utf-8")
+
+
+def names_in(functions):
+    return set(re.findall(r"(\w+)\(", functions))
+
+
+# ---- The files -------------------------------------------------------------------------------
 
 
 def check_build():
-    """Built once, the SDK is up to date, and its header is the repository's."""
-    header = built_header()
+    """Built once, the SDK is up to date. It has the files of each library and no others, and its headers are the repository's."""
+    library.sdk()
     expect("./sdk once more", "target/sdk is up to date\n", output("./sdk"))
-    expect("the header", (library.ROOT / "include" / "cdi.h").read_text(encoding="utf-8"), header)
+    files = {file for interface in INTERFACES for file in (interface.header, interface.archive, interface.shared, interface.package)}
+    expect("its files", sorted({"stamp", *files}), sorted(str(path.relative_to(SDK)) for path in SDK.rglob("*") if path.is_file()))
+    for interface in INTERFACES:
+        kept = (library.ROOT / interface.header).read_text(encoding="utf-8")
+        expect(interface.header, kept, built_header(interface))
     return "the SDK is up to date"
 
 
+# ---- The headers -----------------------------------------------------------------------------
+
+
 def check_numbers():
-    """Each constant of the header but the refusals, which test_refusals.py holds against their table."""
-    found = re.findall(r"^    (CDI_\w+) = (\w+),?(?: |$)", built_header(), re.M)
-    came = {name: int(number, 0) for name, number in found}
-    wanted = dict(LIMITS)
-    for prefix, names in (("COMMAND", COMMANDS), ("RESPONSE", RESPONSES), ("ITEM", ITEMS)):
-        wanted.update({f"CDI_{prefix}_{name}": number for name, number in names.items()})
-    refusals = {name for name in came if name.startswith("CDI_REFUSAL_")}
-    expect("the number of refusals", len(REFUSALS) + 1, len(refusals))
-    expect("the header's numbers", wanted, {name: came[name] for name in came if name not in refusals})
-    return f"{len(came)} numbers"
+    """Each constant of a header but the refusals, which test_refusals.py holds against their table."""
+    count = 0
+    for interface in INTERFACES:
+        found = re.findall(r"^    ([A-Z]\w+) = (\w+),?(?: |$)", built_header(interface), re.M)
+        came = {name: int(number, 0) for name, number in found}
+        refusals = {name for name in came if name.startswith(f"{interface.name.upper()}_REFUSAL_")}
+        expect(f"the number of refusals in {interface.header}", len(numbers_of(interface.name)) + 1, len(refusals))
+        numbers = {name: came[name] for name in came if name not in refusals}
+        expect(f"the numbers of {interface.header}", interface.numbers, numbers)
+        count += len(came)
+    return f"{count} numbers"
 
 
 def check_items():
-    """The commands that the header says an item permits are those of the item list."""
-    said = re.findall(r"CDI_ITEM_\w+ = (0x..),? +/\* ([RNWP-]{4})  ", built_header())
+    """The commands that the CDI's header says an item permits are those of the item list."""
+    said = re.findall(r"CDI_ITEM_\w+ = (0x..),? +/\* ([RNWP-]{4})  ", built_header(CDI))
     wanted = {code: item.commands for code, item in reference.ITEMS.items()}
     expect("the items' commands", wanted, {int(code, 16): marks.replace("-", "") for code, marks in said})
     return f"{len(said)} items"
 
 
+def exported(interface):
+    """The names that a shared library exports, without those that begin with an underscore."""
+    lines = output("nm", "-D", "--defined-only", SDK / interface.shared).splitlines()
+    return {name for name in (line.split()[-1] for line in lines) if not name.startswith("_")}
+
+
 def check_functions():
-    """The header declares the functions that were agreed, and the library exports them and no other."""
-    declared = [re.sub(r"\s+", " ", text) for text in re.findall(r"^[a-z]\w+ cdi_\w+\([^;]*;", built_header(), re.M)]
-    expect("the functions", sorted(FUNCTIONS.strip().splitlines()), sorted(declared))
-    lines = output("nm", "-D", "--defined-only", SHARED).splitlines()
-    exported = {line.split()[-1] for line in lines}
-    expect("what is exported", set(SIGNATURES), {name for name in exported if not name.startswith("_")})
-    return f"{len(declared)} functions"
+    """Each header declares the functions that were agreed, and its library exports them and no other. The tests call each."""
+    count = 0
+    for interface in INTERFACES:
+        declared = re.findall(r"^[a-z]\w+ [a-z]\w+\([^;]*;", built_header(interface), re.M)
+        agreed = interface.functions.strip().splitlines()
+        expect(f"the functions of {interface.header}", sorted(agreed), sorted(re.sub(r"\s+", " ", text) for text in declared))
+        expect(f"what {interface.shared} exports", names_in(interface.functions), exported(interface))
+        expect(f"what the tests call of {interface.name}", names_in(interface.functions), set(interface.signatures))
+        count += len(declared)
+    return f"{count} functions"
 
 
-def check_keeps_nothing():
-    """The library holds a state for the length of a call and no longer: it has no memory of its own that can be written, and calls
-    nothing that could have."""
-    library.sdk()
-    sizes = [row.split() for row in output("size", ARCHIVE).splitlines()[1:]]
-    expect("the bytes of writable memory in its objects", {("0", "0")}, {(data, bss) for _, data, bss, *_ in sizes})
-    called = {line.split()[-1] for line in output("nm", "--undefined-only", ARCHIVE).splitlines() if " U " in line}
-    expect("the functions that it calls", {"memcpy", "memset"}, called)
-    return "no memory of its own"
-
-
-def layout_claims():
-    """What the tests' own structs say of the header's: C that is compiled where all of it holds."""
+def layout_claims(interface):
+    """What the tests' own structs say of a header's: C that is compiled where all of it holds."""
     claims = []
-    for name, struct in STRUCTS.items():
+    for name, struct in interface.structs.items():
         claims.append(f"sizeof({name}) == {ctypes.sizeof(struct)}")
         for field, kind in struct._fields_:
             claims.append(f"offsetof({name}, {field}) == {getattr(struct, field).offset}")
@@ -182,24 +118,79 @@ def layout_claims():
     return claims
 
 
-def check_layout():
-    """The header's structs have these fields in this order, and no others."""
-    header, claims = built_header(), layout_claims()
+def compile_source(language, text, *archives):
+    """Compiles a text against the SDK's headers, without a warning, and links it with the archives, if there are any."""
+    compiler, standard, ending = language
     with tempfile.TemporaryDirectory() as folder:
-        source = f"{folder}/layout.c"
+        source = f"{folder}/source{ending}"
         with open(source, "w", encoding="utf-8") as file:
-            file.write("#include <cdi.h>\n" + "".join(f'_Static_assert({claim}, "{claim}");\n' for claim in claims))
-        output("gcc", *STRICT, f"-I{HEADER.parent}", "-fsyntax-only", source)
-    asserted = {re.sub(r"^CDI_HOLDS\(|\);$", "", line) for line in header.splitlines() if line.startswith("CDI_HOLDS(")}
-    wanted = {claim for claim in claims if "->" not in claim} | {"sizeof(size_t) == 8"}
-    expect("the header's assertions", wanted, asserted)
-    return f"{len(claims)} facts of layout"
+            file.write(text)
+        output(compiler, standard, *WARNINGS, f"-I{SDK / 'include'}", source, *(archives or ["-c"]), "-o", f"{folder}/made")
 
 
-def package_flags():
-    """The flags that pkg-config reads from cdi.pc, as words."""
-    values = {"pcfiledir": str(PACKAGE.parent)}
-    lines = re.findall(r"^(\w+)(=|: )(.*)$", PACKAGE.read_text(encoding="utf-8"), re.M)
+def including(interfaces):
+    return "".join(f"#include <{interface.name}.h>\n" for interface in interfaces)
+
+
+def check_layout():
+    """The headers' structs have these fields in this order, and no others."""
+    count = 0
+    for interface in INTERFACES:
+        header, claims = built_header(interface), layout_claims(interface)
+        text = "".join(f'_Static_assert({claim}, "{claim}");\n' for claim in claims)
+        compile_source(C, including([interface]) + text)
+        asserted = set(re.findall(rf"^{interface.name.upper()}_HOLDS\((.*)\);$", header, re.M))
+        wanted = {claim for claim in claims if "->" not in claim} | {"sizeof(size_t) == 8"}
+        expect(f"the assertions of {interface.header}", wanted, asserted)
+        count += len(claims)
+    return f"{count} facts of layout"
+
+
+def linking(interfaces):
+    """A C++ program that needs every function."""
+    calls = (f"is_there({name})" for interface in interfaces for name in sorted(names_in(interface.functions)))
+    is_there = "template <typename F> bool is_there(F *function) { return function != nullptr; }\n"
+    return f"{including(interfaces)}{is_there}int main() {{ return {' && '.join(calls)} ? 0 : 1; }}\n"
+
+
+def check_languages():
+    """The headers compile alone and together, in any order and twice, in C and in C++. A C++ program links with every function."""
+    library.sdk()
+    languages = [C, CPP] if shutil.which(CPP[0]) else [C]
+    included = [*((interface,) for interface in INTERFACES), *itertools.permutations(INTERFACES)]
+    for language, interfaces in itertools.product(languages, included):
+        compile_source(language, including(2 * interfaces))
+    if CPP not in languages:
+        return f"headers in C ({CPP[0]} is not installed, so C++ is not tried)"
+    compile_source(CPP, linking(INTERFACES), *(SDK / interface.archive for interface in INTERFACES))
+    return "headers in C and C++"
+
+
+# ---- The libraries ---------------------------------------------------------------------------
+
+
+def check_keeps_nothing():
+    """A library holds a state for the length of a call and no longer: it has no memory of its own that can be written, and calls
+    nothing that could have. Its header says what it calls."""
+    for interface in INTERFACES:
+        said = re.findall(r"The library needs ([^.]*)\.", built_header(interface).replace("\n *", ""))
+        expect(f"what {interface.header} says it needs", [interface.calls], [set(re.findall(r"mem\w+", words)) for words in said])
+        archive = SDK / interface.archive
+        sizes = [row.split() for row in output("size", archive).splitlines()[1:]]
+        expect(f"the bytes of writable memory in {archive}", {("0", "0")}, {(data, bss) for _, data, bss, *_ in sizes})
+        called = {line.split()[-1] for line in output("nm", "--undefined-only", archive).splitlines() if " U " in line}
+        expect(f"the functions that {archive} calls", interface.calls, called)
+    return "no memory of their own"
+
+
+# ---- The examples ----------------------------------------------------------------------------
+
+
+def package_flags(interface):
+    """The flags that pkg-config reads from a library's .pc file, as words."""
+    package = SDK / interface.package
+    values = {"pcfiledir": str(package.parent)}
+    lines = re.findall(r"^(\w+)(=|: )(.*)$", package.read_text(encoding="utf-8"), re.M)
 
     def filled(text):
         return re.sub(r"\$\{(\w+)\}", lambda found: values[found.group(1)], text)
@@ -211,27 +202,52 @@ def package_flags():
     return [filled(word) for name in ("Cflags", "Libs") for word in said[name].split()]
 
 
-def check_controller():
-    """The example, linked with the archive and, by cdi.pc's flags, with the shared library."""
+def source_of(example):
+    return library.ROOT / "examples" / f"{example.name}.c"
+
+
+def check_examples():
+    """Each example, linked with the archives and, by the flags of the .pc files, with the shared libraries."""
     library.sdk()
-    example = library.ROOT / "examples" / "controller.c"
-    with tempfile.TemporaryDirectory() as folder:
-        static, shared = f"{folder}/static", f"{folder}/shared"
-        output("gcc", *STRICT, f"-I{HEADER.parent}", example, ARCHIVE, "-o", static)
-        output("gcc", *STRICT, example, *package_flags(), "-o", shared)
-        expect("the controller's lines", PRINTED, output(static))
-        expect("the controller's lines", PRINTED, output(shared, env={"LD_LIBRARY_PATH": str(SHARED.parent)}))
-    return "the controller's {} lines".format(PRINTED.count("\n"))
+    strict, count = [C[1], *WARNINGS], 0
+    for example in EXAMPLES:
+        archives = [SDK / interface.archive for interface in example.interfaces]
+        flags = itertools.chain(*map(package_flags, example.interfaces))
+        with tempfile.TemporaryDirectory() as folder:
+            static, shared = f"{folder}/static", f"{folder}/shared"
+            output("gcc", *strict, f"-I{SDK / 'include'}", source_of(example), *archives, "-o", static)
+            output("gcc", *strict, source_of(example), *flags, "-o", shared)
+            expect(f"the lines of {example.name}", example.printed, output(static))
+            printed = output(shared, env={"LD_LIBRARY_PATH": str(SDK / "lib")})
+            expect(f"the lines of {example.name}", example.printed, printed)
+        count += example.printed.count("\n")
+    return f"{count} lines of {len(EXAMPLES)} examples"
+
+
+def commands_in(text):
+    """The commands that a text shows on indented lines, without comments; one that ends with a backslash goes on in the next line."""
+    shown = "\n".join(line for line in text.splitlines() if line.startswith("    ")).replace("\\\n", " ")
+    return [" ".join(line.partition("#")[0].split()) for line in shown.splitlines()]
+
+
+def head_commands(example):
+    """The commands that the comment at an example's head shows."""
+    head = source_of(example).read_text(encoding="utf-8").partition("*/")[0]
+    return commands_in(re.sub(r"^ \* ?", "", head, flags=re.M))
 
 
 def check_readme():
-    """The README's commands for C print the same."""
+    """The README's commands for C are those of the examples' heads, and print the same."""
     library.sdk()
     readme = (library.ROOT / "README.md").read_text(encoding="utf-8")
-    shown = readme.partition("## Using it from C")[2].partition("`include/cdi.h`")[0]
-    commands = [line.strip() for line in shown.splitlines() if line.startswith("    ")]
-    expect("the README's commands", ["./sdk", "gcc", "target/controller"], [line.split()[0] for line in commands])
-    expect("what they print", "target/sdk is up to date\n" + PRINTED, output("sh", "-ec", "\n".join(commands)))
+    commands = commands_in(readme.partition("## Using it from C")[2].partition("`include/cdi.h`")[0])
+    for example in EXAMPLES:
+        shown = head_commands(example)
+        expect(f"the commands of {example.name}", ["./sdk", "gcc", f"target/{example.name}"], [line.split()[0] for line in shown])
+    builds = itertools.chain(*(head_commands(example)[1:] for example in EXAMPLES))
+    expect("the README's commands", ["./sdk", *builds], commands)
+    printed = "".join(example.printed for example in EXAMPLES)
+    expect("what they print", "target/sdk is up to date\n" + printed, output("sh", "-ec", "\n".join(commands)))
     return f"the README's {len(commands)} commands"
 
 
@@ -242,7 +258,8 @@ CHECKS = (
     check_functions,
     check_keeps_nothing,
     check_layout,
-    check_controller,
+    check_languages,
+    check_examples,
     check_readme,
 )
 
