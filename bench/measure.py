@@ -1,5 +1,5 @@
 """The measurements of bench/run, which builds what is measured: replay beside the C peer on typical lines,
-replay's growth with its input, and single commands of the C library beside the peer's. Each table is
+replay's growth with its input, and single calls of each C library beside its peer's. Each table is
 printed in Markdown. Timed output goes to /dev/null, so that the time is the programs' own."""
 
 import collections
@@ -25,12 +25,29 @@ QUICK = Plan(10, 3, growth=(1, 10), calls=100_000, call_rounds=7)
 
 COUNTED = 100  # calls under callgrind, which cost the same each
 
+# A C library and its peer, by the prefix of their functions. Each has its program `count`, in the folder that is
+# named after the prefix.
+Libraries = collections.namedtuple("Libraries", "library peer")
+CDI = Libraries("cdi", "peer")
+COYOTE = Libraries("coyote", "coyote_peer")
+
+# A call that is measured: its name, the function without the prefix, and what `count` takes for it.
+Call = collections.namedtuple("Call", "name function words")
 COMMANDS = (
-    ("Read of one byte", "80 55 82 01 15"),
-    ("Read of the name", "80 55 82 01 01"),
-    ("Program of a slot", "80 55 88 04 18 27 01 02 03 04 05"),
-    ("Write of a bad value", "80 55 83 02 15 07"),
+    Call("Read of one byte", "execute", "80 55 82 01 15"),
+    Call("Read of the name", "execute", "80 55 82 01 01"),
+    Call("Program of a slot", "execute", "80 55 88 04 18 27 01 02 03 04 05"),
+    Call("Write of a bad value", "execute", "80 55 83 02 15 07"),
 )
+PACKETS = (
+    Call("Read of 1,023 data bytes", "decode", "decode_data"),
+    Call("Write of 1,023 data bytes", "encode_addressed", "encode_data"),
+    Call("Export of a charge", "export_charge", "export_charge"),
+    Call("Import of a charge", "import_charge", "import_charge"),
+    Call("Read of a charge's packet", "decode", "decode_charge"),
+    Call("Read of 1,023 data bytes with a wrong sum", "decode", "decode_damaged"),
+)
+PACKETS_LIMIT = 1.3  # the most instructions of the library for each of the peer's
 
 
 class Problem(Exception):
@@ -152,72 +169,104 @@ def growth(folder, plan):
     )
 
 
-# ---- Single commands -------------------------------------------------------------------------
+# ---- Single calls ----------------------------------------------------------------------------
 
 
-def run_count(folder, library, calls, block, *before):
-    """What count.c prints for a block, and after it. Its stack is the same in each run and for both libraries: the
-    environment is empty, and the program is called by the same name, in a folder of its own."""
-    words = [*before, "./count", str(calls), *block.split()]
-    return output_of(words, cwd=calls_folder(folder, library), env={})
+def run_count(folder, prefix, calls, words, *before):
+    """What a program `count` prints, and after it. Its stack is the same in each run and for a library and its peer:
+    the environment is empty, and the program is called by the same name, in a folder of its own."""
+    return output_of([*before, "./count", str(calls), *words.split()], cwd=calls_folder(folder, prefix), env={})
 
 
-def calls_folder(folder, library):
-    return folder / f"{library}_calls"
+def calls_folder(folder, prefix):
+    return folder / f"{prefix}_calls"
 
 
-def called(folder, library, calls, block):
-    """What came of a block, in words, and the nanoseconds of a call."""
-    result, nanoseconds = run_count(folder, library, calls, block).splitlines()
+def called(folder, prefix, calls, words):
+    """What came of a call, in words, and its nanoseconds."""
+    result, nanoseconds = run_count(folder, prefix, calls, words).splitlines()
     return result, float(nanoseconds)
 
 
-def instructions(folder, library, block):
+def instructions(folder, prefix, call):
     """Instructions from the entry of a call to its return, by callgrind; each call costs the same. Of memcpy
     and its like they are those of the variant that libc takes under valgrind."""
-    words = [shutil.which("valgrind"), "--tool=callgrind", f"--toggle-collect={library}_execute"]
+    function = f"{prefix}_{call.function}"
+    words = [shutil.which("valgrind"), "--tool=callgrind", f"--toggle-collect={function}"]
     words += ["--callgrind-out-file=callgrind.out", "--log-file=callgrind.log"]
-    run_count(folder, library, COUNTED, block, *words)
-    log = (calls_folder(folder, library) / "callgrind.log").read_text(encoding="utf-8")
+    run_count(folder, prefix, COUNTED, call.words, *words)
+    log = (calls_folder(folder, prefix) / "callgrind.log").read_text(encoding="utf-8")
     collected = re.search(r"Collected : (\d+)", log)
     total = int(collected[1]) if collected else 0
     if total == 0 or total % COUNTED != 0:
-        raise Problem(f"callgrind counted {total} instructions in {COUNTED} calls of {library}_execute")
+        raise Problem(f"callgrind counted {total} instructions in {COUNTED} calls of {function}")
     return total // COUNTED
 
 
-def check_same_result(folder, block):
-    """The refusal or length of a block, where both give the same, with every byte of response and state."""
-    result, other = (called(folder, library, 1, block)[0] for library in ("cdi", "peer"))
+def check_same_result(folder, libraries, call):
+    """What came of a call, in short, where both give the same in every field and byte."""
+    result, other = (called(folder, prefix, 1, call.words)[0] for prefix in libraries)
     if result != other:
-        raise Problem(f"for {block} the library gives\n{result}\nand the C peer\n{other}")
-    refusal, length = re.match(r"refusal (\d+) length (\d+)", result).groups()
-    return f"{length} bytes" if refusal == "0" else f"refused {refusal}"
+        raise Problem(f"for {call.words} the library gives\n{result}\nand the C peer\n{other}")
+    refusal, length = re.match(r"refusal (\d+)(?: length (\d+))?", result).groups()
+    if refusal != "0":
+        return f"refused {refusal}"
+    return f"{length} bytes" if length else "accepted"
 
 
-def command_row(folder, plan, name, block):
-    result = check_same_result(folder, block)
-    counts = [instructions(folder, library, block) for library in ("cdi", "peer")]
-    times = {"cdi": [], "peer": []}
+# A call's result, then the instructions, and the nanoseconds of each round, of the library and of the peer.
+Measured = collections.namedtuple("Measured", "result instructions nanoseconds")
+
+
+def measured(folder, plan, libraries, call):
+    result = check_same_result(folder, libraries, call)
+    counts = [instructions(folder, prefix, call) for prefix in libraries]
+    times = {prefix: [] for prefix in libraries}
     for _ in range(plan.call_rounds):
-        for library, taken in times.items():
-            taken.append(called(folder, library, plan.calls, block)[1])
-    medians = [statistics.median(taken) for taken in times.values()]
-    spreads = [f"{m:.0f} ({min(t):.0f} to {max(t):.0f})" for m, t in zip(medians, times.values())]
-    ratios = [f"{library / peer:.2f}" for library, peer in (counts, medians)]
-    return name, f"`{block}`", result, *counts, ratios[0], *spreads, ratios[1]
+        for prefix, taken in times.items():
+            taken.append(called(folder, prefix, plan.calls, call.words)[1])
+    return Measured(result, counts, [*times.values()])
+
+
+def ratio(figures):
+    library, peer = figures
+    return library / peer
+
+
+MEASURED_HEAD = ("Result", "instructions, library", "C peer", "ratio", "ns, library", "C peer", "ratio")
+
+
+def measured_cells(one):
+    medians = [statistics.median(taken) for taken in one.nanoseconds]
+    spreads = [f"{m:.0f} ({min(t):.0f} to {max(t):.0f})" for m, t in zip(medians, one.nanoseconds)]
+    return one.result, *one.instructions, f"{ratio(one.instructions):.2f}", *spreads, f"{ratio(medians):.2f}"
+
+
+def how_measured(plan):
+    return f"Instructions by callgrind; nanoseconds are medians of {plan.call_rounds} rounds of {plan.calls:,} calls in turn."
 
 
 def commands(folder, plan):
     """Single commands, by the library and by the C peer."""
-    head = ("Command", "Block", "Result", "instructions, library", "C peer", "ratio")
-    head += ("ns, library", "C peer", "ratio")
-    rows = [command_row(folder, plan, *command) for command in COMMANDS]
+    rows = [(call.name, f"`{call.words}`", *measured_cells(measured(folder, plan, CDI, call))) for call in COMMANDS]
     return (
         "### One command by the C library\n\n"
         "On a module with a name of 16 characters and slot 39 in use. Refusal, length, response and state are the same in "
-        f"both. Instructions by callgrind; nanoseconds are medians of {plan.call_rounds} rounds of {plan.calls:,} calls in turn.\n\n"
-        + table(head, *rows)
+        f"both. {how_measured(plan)}\n\n" + table(("Command", "Block", *MEASURED_HEAD), *rows)
+    )
+
+
+def packets(folder, plan):
+    """Single packets read and written, by the Coyote library and by its C peer."""
+    taken = {call: measured(folder, plan, COYOTE, call) for call in PACKETS}
+    rows = [(call.name, f"`coyote_{call.function}`", *measured_cells(one)) for call, one in taken.items()]
+    most = max(ratio(one.instructions) for one in taken.values())
+    return (
+        "### Coyote packets, one call\n\n"
+        "The data are those of an AckData packet of 1,036 bytes, a charge's packet has 16 bytes, and each has one target. Every "
+        f"field of the result and every byte of the buffer is the same in both. {how_measured(plan)}\n\n"
+        + table(("Call", "Function", *MEASURED_HEAD), *rows)
+        + f"\nLimit: at most {PACKETS_LIMIT} times the C peer's instructions. The largest ratio here is {most:.2f}.\n"
     )
 
 
@@ -257,7 +306,7 @@ def main():
     folder = pathlib.Path(sys.argv[1])
     plan = QUICK if "--quick" in sys.argv[2:] else FULL
     print(conditions(), flush=True)
-    for measure in (throughput, growth, commands):
+    for measure in (throughput, growth, commands, packets):
         print(measure(folder, plan), flush=True)
 
 

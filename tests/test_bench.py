@@ -1,12 +1,17 @@
 #!/usr/bin/env python3
-"""Holds the C peer of the benchmark against the replay program, line by line.
+"""Holds the C peers of the benchmark against what they are measured beside.
+
+The module's peer is held against the replay program, line by line.
 
 A benchmark compares like with like only where both print the same bytes. Both builds of the peer that
 bench/run times are made with every warning an error, and run on the benchmark's own traffic, on every
 command and item, on damaged frames and lines, at the borders of a read and on bytes by chance. A log
 starts from the factory state and so never meets a name, live cells, an invalid state or a short
-response buffer; with these the peer's module is called by itself and compared with reference.py. The
-first difference ends the run with exit status 1.
+response buffer; with these the peer's module is called by itself and compared with reference.py.
+
+The peer of the Coyote packets is called and compared with coyote_reference.py, and the programs whose
+calls bench/run counts have to print the same with the library and with the peer. The first difference
+ends the run with exit status 1.
 """
 
 import collections
@@ -16,15 +21,19 @@ import random
 import subprocess
 import sys
 import tempfile
+import types
 
 sys.path.append(str(pathlib.Path(__file__).resolve().parent.parent / "bench"))
 sys.dont_write_bytecode = True  # leaves no files beside the tests
 
+import coyote_entries
+import measure
 import reference
 import traffic
 from cases import refused_payloads
+from coyote_entries import Addressed, Export, Failure, ReadMemory, Success, counted, mended, packet
 from entries import FILLER, OUTCOME, random_buffer
-from library import POINTER, ROOT, SIZE, Calls, Memory, Problem, load, run_test
+from library import POINTER, ROOT, SIZE, Calls, Memory, Problem, load, run_test, same_sets, sdk
 from logs import (
     BORDER,
     HOSTILE_LINES,
@@ -77,8 +86,8 @@ SIGNATURES = {
 }
 
 
-def compile_peer(path, *words):
-    """Compiles the peer's sources; gcc says itself what is wrong."""
+def compiled(path, *words):
+    """Compiles a benchmark's sources; gcc says itself what is wrong."""
     flags = ("-O2", "-Wall", "-Wextra", "-Wconversion", "-Werror")
     if subprocess.run(["gcc", *flags, "-o", path, *words], cwd=ROOT).returncode != 0:
         raise Problem(f"{path.name} can't be compiled")
@@ -87,14 +96,22 @@ def compile_peer(path, *words):
 
 def programs(folder):
     sources = ("bench/peer.c", "bench/peer_replay.c")
-    return [compile_peer(folder / name, *flags, *sources) for name, flags in BUILDS.items()]
+    return [compiled(folder / name, *flags, *sources) for name, flags in BUILDS.items()]
 
 
 def modules(folder):
     """The module of each build as a shared library, with its name."""
     for name, flags in BUILDS.items():
-        path = compile_peer(folder / f"{name}.so", "-shared", "-fPIC", *flags, "bench/peer.c")
+        path = compiled(folder / f"{name}.so", "-shared", "-fPIC", *flags, "bench/peer.c")
         yield name, load(path, SIGNATURES)
+
+
+def coyote_peer(folder):
+    """The peer of the Coyote packets, with its functions under the library's names."""
+    path = compiled(folder / "coyote_peer.so", "-shared", "-fPIC", "bench/coyote_peer.c")
+    names = {name: name.replace("coyote_", "coyote_peer_", 1) for name in coyote_entries.SIGNATURES}
+    peer = load(path, {names[name]: signature for name, signature in coyote_entries.SIGNATURES.items()})
+    return types.SimpleNamespace(**{name: getattr(peer, own) for name, own in names.items()})
 
 
 # ---- Comparing logs --------------------------------------------------------------------------
@@ -371,10 +388,230 @@ def check_module_coverage(name, module):
         raise Problem(f"the calls of {name} by refusal are too few: {sorted(module.seen.items())}")
 
 
+# ---- Coyote packets --------------------------------------------------------------------------
+
+SOURCE, TARGETS = b"\x01\x02", b"\x01\x03"
+CHARGE = Export(3, SOURCE, TARGETS, 2, 57016)
+
+# Packets of each kind: the least and the most that each may hold, and 80 wherever it is a plain byte.
+MESSAGES = (
+    Addressed(0x00, SOURCE, TARGETS, b"Hello"),
+    Addressed(0x0F, b"\x80\x80", b"\x01\x80", b"\x80"),
+    Addressed(0x10, SOURCE, 16 * b"\x7f\x80", bytes(1023)),
+    Addressed(0x1F, SOURCE, TARGETS + b"\x00\x00", b"\x02\xde\xb8"),
+    Addressed(0x20, SOURCE, 15 * TARGETS, b"\xff"),
+    Addressed(0x2F, SOURCE, TARGETS, b"\x04"),
+    CHARGE,
+    Export(15, SOURCE, 16 * TARGETS, 1, 0),
+    Export(0, b"\xff\xff", b"\xff\xff", 1, 0xFFFF),
+    ReadMemory(1, 0x0067, 2),
+    ReadMemory(0, 0xFFFF, 1023),
+    Success(0x81, b""),
+    Success(0x80, b"\x01\x03"),
+    Success(0xFF, bytes(range(256)) * 3 + bytes(255)),
+    Failure(0x00, 0),
+    Failure(0x80, 5),
+)
+
+# Lengths of data around the limits; the last ones don't fit into a packet.
+DATA_SIZES = (0, 1, 2, 3, 4, 255, 256, 257, 1022, 1023, 1024, 1025, 65_526, 65_535, 65_536, 65_537, 66_559)
+LONG_SIZES = 4
+
+
+def written(peer, message):
+    """The packet of a message that is accepted, written by the peer."""
+    refusal, length, buffer = peer.reread(message, bytes(1066))
+    peer.same("a packet's refusal", 0, refusal, message=message)
+    return buffer[:length]
+
+
+def addressed(targets, data):
+    """A payload with targets and data, which may be such as no writer accepts."""
+    return SOURCE + targets + b"\x80" + counted(data)
+
+
+def check_coyote_buffers(peer, rng):
+    """Packets of each kind in buffers of every length around theirs, and the readers on what was written."""
+    for message in MESSAGES:
+        block = written(peer, message)
+        peer.judge(block)
+        for size in {0, 1, 2, 5, 6, 2000, *range(max(0, len(block) - 20), len(block) + 20)}:
+            peer.write(message, rng.randbytes(size))
+
+
+def addressed_limits():
+    """Types, targets and data at both sides of their limits, and lengths that are right modulo 65,536."""
+    for kind, data in itertools.product(range(256), (b"\x07", b"\x07\x08")):
+        yield Addressed(kind, SOURCE, TARGETS, data)
+    for size in (*range(36), 64, 256, 258, 65_536, 65_538):
+        yield Addressed(0x05, SOURCE, bytes(size), b"\x07")
+        yield CHARGE._replace(targets=bytes(size))
+    for at in range(32):
+        targets = bytes(at) + b"\x80" + bytes(31 - at)
+        yield Addressed(0x00, SOURCE, targets, b"\x07")
+        yield CHARGE._replace(targets=targets)
+    for kind, size in itertools.product((0x00, 0x1F, 0x20), DATA_SIZES):
+        yield Addressed(kind, SOURCE, TARGETS, bytes(size))
+
+
+def other_limits():
+    """The same of what has no targets, and of a charge's numbers."""
+    for byte in range(256):
+        yield from (Failure(0x80, byte), Failure(byte, 5), Success(byte, b"\x80"), ReadMemory(byte, 0x0180, 2))
+        yield from (CHARGE._replace(sequence=byte), CHARGE._replace(input=byte))
+        yield from (CHARGE._replace(readout=257 * byte), CHARGE._replace(source=bytes([byte, 0x80])))
+    for size in DATA_SIZES:
+        yield Success(0x80, bytes(size))
+        yield ReadMemory(1, size % 65_536, size % 65_536)
+
+
+def check_coyote_limits(peer, rng):
+    """What the writers are handed at both sides of each limit, with no buffer, a short one and enough."""
+    for message in itertools.chain(addressed_limits(), other_limits()):
+        for size in (0, 12, 1066):
+            peer.reread(message, rng.randbytes(size))
+
+
+def damaged(whole, at):
+    """A packet that is cut at a place, has a byte more or less there, or another one."""
+    yield from (whole[:at], whole[at:], whole[:at] + whole[at + 1 :], whole[:at] + b"\x80" + whole[at:])
+    for byte in {0x00, 0x01, 0x02, 0x04, 0x55, 0x80, 0xAA, 0xFF, whole[at] ^ 0x01, (whole[at] + 1) % 256}:
+        yield whole[:at] + bytes([byte]) + whole[at + 1 :]
+
+
+def check_coyote_damage(peer, rng):
+    """Packets that are damaged at each place, with the sum as it was and with a right one."""
+    for message in MESSAGES:
+        whole = written(peer, message)
+        places = {*range(len(whole))[:50], *range(len(whole))[-50:]}
+        for block in itertools.chain.from_iterable(damaged(whole, at) for at in sorted(places)):
+            peer.judge(block)
+            if len(block) >= 4:
+                peer.judge(mended(block))
+        for block in (whole + b"\x55", whole + whole, b"\xaa" + whole):
+            peer.judge(block)
+
+
+def limit_payloads(rng):
+    """Types and payloads with targets, data and lengths at both sides of their limits."""
+    for kind, count in itertools.product((0x00, 0x13, 0x20), range(20)):
+        for data in (b"\x01", b"\x01\xde\xb8", b"\x80\x80\x80", b"\x80\x01\x00\x07"):
+            yield kind, addressed(count * TARGETS, data)
+            yield kind, (SOURCE + count * TARGETS + data)[: rng.randrange(40)]
+    for number, size in itertools.product(range(256), range(6)):
+        yield 0x10, addressed(TARGETS, bytes([number, 0xDE, 0xB8, 0x00, 0x01])[:size])
+    for size in DATA_SIZES[:-LONG_SIZES]:
+        yield from ((kind, addressed(TARGETS, bytes(size))) for kind in (0x00, 0x1F, 0x20))
+        yield from ((kind, b"\x80" + counted(bytes(size))) for kind in (0x86, 0x87))
+    for space, length in itertools.product(range(4), DATA_SIZES[:-LONG_SIZES]):
+        yield 0x80, bytes([space, 0x67, 0x01]) + length.to_bytes(2, "little")
+
+
+def check_coyote_payloads(peer, rng):
+    """Whole packets with every type, with payloads at the limits, and longer than length bytes can say."""
+    payloads = [b"", *(written(peer, message)[4:-2] for message in MESSAGES)]
+    short = [payload for payload in payloads if len(payload) < 50]
+    for kind, payload in itertools.chain(itertools.product(range(256), short), limit_payloads(rng)):
+        peer.judge(packet(kind, payload))
+    for size in (65_535, 65_536, 65_541, 65_544, 131_077):
+        peer.judge(mended(b"\xaa\x86" + (size % 65_536).to_bytes(2, "little") + bytes(size) + b"\x00\x55"))
+
+
+def check_coyote_chance(peer, rng):
+    """Bytes by chance: whole blocks, payloads in a right frame, and what the writers are handed."""
+    kinds = (0x00, 0x07, 0x10, 0x1F, 0x20, 0x2F, 0x30, 0x80, 0x86, 0x87)
+    for _ in range(2000):
+        peer.judge(rng.randbytes(rng.randrange(20)))
+        peer.judge(b"\xaa" + rng.randbytes(rng.randrange(20)) + b"\x55")
+        payload = bytes(rng.choices((0x00, 0x01, 0x02, 0x03, 0x05, 0x80), k=rng.randrange(24)))
+        peer.judge(packet(rng.choice(kinds), payload))
+        targets = rng.randbytes(2 * rng.randrange(18))
+        data = rng.randbytes(rng.choice((1, 1, 3, 3, rng.randrange(1100))))
+        peer.judge(packet(rng.choice(kinds), addressed(targets, data)))
+        buffer = rng.randbytes(rng.choice((1066, 1200, rng.randrange(1100))))
+        peer.reread(Addressed(rng.choice(kinds), rng.randbytes(2), targets, data), buffer)
+        peer.reread(Success(rng.randrange(256), data), buffer)
+        charge = Export(rng.randrange(17), rng.randbytes(2), targets, rng.randrange(4), rng.randrange(65_536))
+        peer.reread(charge, buffer)
+
+
+COYOTE_CHECKS = (
+    check_coyote_buffers,
+    check_coyote_limits,
+    check_coyote_damage,
+    check_coyote_payloads,
+    check_coyote_chance,
+)
+
+COYOTE_READERS = {"coyote_decode", "coyote_import_charge"}
+
+
+def check_coyote_coverage(peer):
+    """Each entry gave each of its refusals, and was accepted, often enough."""
+    for entry in coyote_entries.SIGNATURES:
+        wanted = {0, 24, 25, 26, 27} if entry in COYOTE_READERS else {0, 27, 13}
+        seen = {refusal: count for (own, refusal), count in peer.outcomes.items() if own == entry}
+        if set(seen) != wanted or min(seen.values()) < 10:
+            raise Problem(f"the calls of {entry} by refusal are too few: {sorted(seen.items())}")
+
+
+# ---- Counted calls of Coyote packets ---------------------------------------------------------
+
+# What bench/coyote_count.c prints before the buffer, and the packet that is then in the buffer, if any.
+PACKET_WORDS = (
+    "refusal {} type {:02X} source {} targets {} space 0 request 00 code 0 memory 0000, 0 bytes, "
+    "data at {}, {} bytes"
+)
+COUNTED_CALLS = {
+    "decode_data": (PACKET_WORDS.format(0, 0x00, "01:02", 1, 11, 1023), b""),
+    "encode_data": (
+        "refusal 0 length 1036",
+        packet(0x00, addressed(TARGETS, bytes([number % 256 for number in range(1023)]))),
+    ),
+    "export_charge": ("refusal 0 length 16", packet(0x13, addressed(TARGETS, b"\x02\xde\xb8"))),
+    "import_charge": ("refusal 0 input 2 readout 57016", b""),
+    "decode_charge": (PACKET_WORDS.format(0, 0x13, "01:02", 1, 11, 3), b""),
+    "decode_damaged": (PACKET_WORDS.format(26, 0x00, "00:00", 0, 0, 0), b""),
+}
+
+
+def counting_programs(folder):
+    """bench/coyote_count.c with the peer and with the library."""
+    source, built = "bench/coyote_count.c", sdk()
+    yield compiled(folder / "count_by_peer", "-DPEER", source, "bench/coyote_peer.c")
+    include, library = f"-I{built / 'include'}", built / "lib" / "libcoyote.a"
+    yield compiled(folder / "count_by_library", include, source, library)
+
+
+def counted_line(program, operation):
+    """The first line that a program prints for two calls of an operation."""
+    done = subprocess.run([program, "2", operation], capture_output=True, text=True)
+    if done.returncode != 0:
+        raise Problem(f"{program.name} failed with {done.returncode} in {operation}: {done.stderr.strip()}")
+    return done.stdout.partition("\n")[0]
+
+
+def check_coyote_counted(folder):
+    """Each call that bench/run counts is what its table says, with the peer and with the library."""
+    operations = {call.words for call in measure.PACKETS}
+    same_sets("counted calls", set(COUNTED_CALLS), "the test", operations, "bench/measure.py")
+    for program, operation in itertools.product(counting_programs(folder), COUNTED_CALLS):
+        words, block = COUNTED_CALLS[operation]
+        wanted = f"{words} buffer {block.ljust(1066, bytes([0xEE])).hex(' ').upper()}"
+        came = counted_line(program, operation)
+        if came != wanted:
+            raise Problem(f"difference in {operation}, {program.name}\n  expected: {wanted}\n  came:     {came}")
+    return f"{len(operations)} counted calls of the Coyote library and of its C peer give the same"
+
+
+COUNTED_CHECKS = (check_coyote_counted,)
+
+
 # ---- The run ---------------------------------------------------------------------------------
 
 
 def compare_logs(folder, checks, whole):
+    runnable(REPLAY)
     logs = Logs(programs(folder))
     for check in checks:
         check(logs, random.Random(SEED))
@@ -397,15 +634,35 @@ def compare_modules(folder, checks, whole):
         print(f"{module.calls} calls of the module of {name} and of the reference agree")
 
 
+def compare_coyote(folder, checks, whole):
+    peer = coyote_entries.Comparison(coyote_peer(folder))
+    for check in checks:
+        check(peer, random.Random(SEED))
+    if whole:
+        check_coyote_coverage(peer)
+    print(f"{peer.calls} calls of the C peer of the Coyote packets and of the reference agree")
+
+
+def compare_counted(folder, checks, whole):
+    for check in checks:
+        print(check(folder))
+
+
+PARTS = (
+    (compare_logs, LOG_CHECKS),
+    (compare_modules, MODULE_CHECKS),
+    (compare_coyote, COYOTE_CHECKS),
+    (compare_counted, COUNTED_CHECKS),
+)
+
+
 def main(checks, whole):
-    runnable(REPLAY)
-    parts = (compare_logs, LOG_CHECKS), (compare_modules, MODULE_CHECKS)
     with tempfile.TemporaryDirectory() as folder:
-        for compare, known in parts:
+        for compare, known in PARTS:
             chosen = [check for check in checks if check in known]
             if chosen:
                 compare(pathlib.Path(folder), chosen, whole)
 
 
 if __name__ == "__main__":
-    run_test(LOG_CHECKS + MODULE_CHECKS, main)
+    run_test([check for _, known in PARTS for check in known], main)
