@@ -1,2 +1,3 @@
 pub mod ByFields
 pub mod Laws
+pub mod Determined

@@ -8,3 +8,4 @@ pub mod Accepted
 pub mod Refusals
 pub mod Whole
 pub mod Exact
+pub mod Determined
