@@ -13,16 +13,20 @@ use Rattle.refusal.specs.Refusal.{accepted}
 use Rattle.checksum.specs.Checksum.{byteSum, sumHolds}
 use Rattle.checksum.proofs.Laws.{written-passes, passes-as-written, change-noticed}
 use Rattle.coyote_packet.specs.declared.Packet.the-variants.{AckData, Ack, Success}
+use Rattle.coyote_packet.specs.declared.Decoded.the-variants as decoded
 use Rattle.coyote_packet.specs.Layout.{Message, addressed, readMem, success, failure, messageBytes, packetBytes, payloadOf, targetsEnd, targetsBefore, fitTargets, isAccepted}
 use Rattle.coyote_packet.specs.Read.{readAddressed, readSuccess, readPayload, readPacket, readMessage}
 use Rattle.coyote_packet.specs.Laws.{WholeTargets, LaidOut}
+use Rattle.coyote_packet.proofs.Determined.{decoded-determined}
 use Rattle.coyote_packet.proofs.ReadBack.{read-back}
 use Rattle.coyote_packet.proofs.Accepted.{accepted-laid-out}
 use Rattle.coyote_packet.proofs.Exact.{read-back-only, group-lost}
 use Rattle.coyote_packet.proofs.Whole.{fit-is-whole, whole-is-fit}
 use Rattle.coyote_encode.specs.Encode.{encode}
 use Rattle.coyote_encode.proofs.Laws.{written-is-read, read-is-written}
+use Rattle.coyote_charge.specs.declared.Imported.the-variants as imported
 use Rattle.coyote_charge.specs.Charge.{charge, importCharge}
+use Rattle.coyote_charge.proofs.Determined.{imported-determined}
 use Rattle.coyote_charge.proofs.Laws.{export-is-imported, import-was-exported}
 use Rattle.coyote_examples.specs.Examples.{toOne, unwritten}
 use Rattle.coyote_examples.specs.Sentences.{
@@ -175,6 +179,8 @@ sentences-hold = record {
   ack-places = ack-laid-out .places-within;
   answer-places = answer-laid-out .places-within;
   answer-small = answer-laid-out .numbers-small;
+  one-answer = λ r e. decoded-determined r (decoded.Accepted (AckData helloFields)) (e ∙ hello-read);
+  one-charge = λ r e. imported-determined r (imported.Accepted (charge 2 57016)) (e ∙ charge-imported);
   group-80 = group-lost 0x10 0x01 0x02 (0x01 ∷ 0x03 ∷ 0x80 ∷ 0x03 ∷ []) (0x07 ∷ []) 1 group-bytes (omega arith) refl;
   no-data = no-data;
   no-single-byte = no-single-byte;

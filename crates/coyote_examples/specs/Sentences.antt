@@ -9,10 +9,15 @@ use Rattle.refusal.specs.Refusal.{accepted, bufferAfter}
 use Rattle.checksum.specs.Checksum.{summed, sumHolds}
 use Rattle.coyote_packet.specs.declared.Addressed.{Addressed}
 use Rattle.coyote_packet.specs.declared.Succeeded.{Succeeded}
+use Rattle.coyote_packet.specs.declared.Packet.the-variants.{AckData}
+use Rattle.coyote_packet.specs.declared.Decoded.{Decoded}
+use Rattle.coyote_packet.specs.declared.Decoded.the-variants as decoded
 use Rattle.coyote_packet.specs.Layout.{Message, addressed, readMem, success, failure, messageBytes, fitTargets, isAccepted}
-use Rattle.coyote_packet.specs.Read.{readMessage}
+use Rattle.coyote_packet.specs.Read.{decodedResult, readPacket, readMessage}
 use Rattle.coyote_encode.specs.Encode.{encode}
-use Rattle.coyote_charge.specs.Charge.{charge, exportCharge, importCharge}
+use Rattle.coyote_charge.specs.declared.Imported.{Imported}
+use Rattle.coyote_charge.specs.declared.Imported.the-variants as imported
+use Rattle.coyote_charge.specs.Charge.{importedResult, charge, exportCharge, importCharge}
 use Rattle.coyote_examples.specs.Examples.{toOne, unwritten}
 
 -- 003's "Hello", from 1:2 to 1:3, and where its parts lie
@@ -83,6 +88,9 @@ pub record Sentences : Type 0 where
   pub ack-places : (6 + 2 * 1 ≤ 14) × (11 + 1 ≤ 14)
   pub answer-places : 7 + 2 ≤ 11
   pub answer-small : (7 ≤ 41) × (2 ≤ 1023)
+  -- the contracts of reader and import leave one answer each
+  pub one-answer : (r : Decoded) → decodedResult r ≡ readPacket helloBlock → r ≡ decoded.Accepted (AckData helloFields)
+  pub one-charge : (r : Imported) → importedResult r ≡ importCharge chargeBlock → r ≡ imported.Accepted (charge 2 57016)
   -- a packet to a group 80 is not read back, nor is one of what no writer accepts
   pub group-80 : readMessage (messageBytes toGroup80) ≡ accepted toGroup80 → ⊥
   pub no-data : readMessage (messageBytes withoutData) ≡ accepted withoutData → ⊥

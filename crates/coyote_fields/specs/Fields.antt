@@ -7,7 +7,7 @@ use Rattle.coyote_packet.specs.declared.Packet.the-variants.{AckData, NoAckData
 use Rattle.coyote_packet.specs.Layout.{ackDataType, noAckDataType, ackType, readMemType, successType, failureType}
 use Rattle.coyote_fields.specs.declared.PacketFields.{PacketFields}
 
--- the number of the refusal or none, and the type
+-- AckData, NoAckData and Ack: no refusal, and the type is the first of its kind plus the sequence number
 abbrev pub addressedFields : ℕ → Addressed → PacketFields
 addressedFields type a = record {
   refusal = none;
@@ -24,6 +24,7 @@ addressedFields type a = record {
   «data_length» = a .«data_length»;
 }
 
+-- every other packet, and a refusal: there are no addresses
 abbrev pub otherFields : (refusal type space request code address size start length : ℕ) → PacketFields
 otherFields refusal type space request code address size start length = record {
   refusal = refusal;
@@ -40,6 +41,7 @@ otherFields refusal type space request code address size start length = record {
   «data_length» = length;
 }
 
+-- a refusal: its number, and 0 in every other field
 abbrev pub refusedFields : ℕ → PacketFields
 refusedFields n = otherFields n 0 0 0 0 0 0 0 0
 
