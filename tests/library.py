@@ -192,3 +192,20 @@ class Calls:
             before = self.calls
             check(self, random.Random(seed))
             print(f"{check.__name__}: {self.calls - before} calls")
+
+
+LEAST_SEEN = 100  # of each kind of call that a comparison counts
+
+
+def check_seen(what, kinds, seen):
+    """Every entry had calls of each of its kinds, enough of them, and none of another; else the checks are too thin."""
+    wanted = {(entry, kind) for entry in kinds for kind in kinds[entry]}
+    same_sets(what, wanted, "what each entry can give", set(seen), "the calls")
+    rare = {key: times for key, times in seen.items() if times < LEAST_SEEN}
+    if rare:
+        raise Problem(f"{what} that were rarely seen: {rare}")
+
+
+def print_outcomes(kinds, seen):
+    for entry, numbers in kinds.items():
+        print(f"{entry} by outcome: " + ", ".join(f"{number}: {seen[entry, number]}" for number in numbers))

@@ -36,7 +36,7 @@ from coyote_reference import (
     PACKET_LENGTH,
     PACKET_SUM,
 )
-from library import Problem, run_test, same_sets
+from library import check_seen, print_outcomes, run_test
 from refusals import OWN
 
 SEED = 20240010
@@ -1076,30 +1076,15 @@ TYPES = {
     "coyote_export_charge": NO_ACK_DATA_TYPES,
     "coyote_import_charge": NO_ACK_DATA_TYPES,
 }
-LEAST_SEEN = 100  # of each outcome and of each type
-
-
-def check_coverage(compare):
-    """Every entry had every outcome and accepted every type that it can; else the checks are too thin."""
-    for what, numbers, seen in (
-        ("outcomes", OUTCOMES, compare.outcomes),
-        ("types", TYPES, compare.accepted),
-    ):
-        wanted = {(entry, number) for entry in numbers for number in numbers[entry]}
-        same_sets(what, wanted, "what each entry can give", set(seen), "the calls")
-        rare = {key: times for key, times in seen.items() if times < LEAST_SEEN}
-        if rare:
-            raise Problem(f"{what} that were rarely seen: {rare}")
 
 
 def main(checks, whole):
     compare = Comparison(load_entries())
     compare.run(checks, SEED)
     if whole:
-        check_coverage(compare)
-        for entry, numbers in OUTCOMES.items():
-            seen = ", ".join(f"{number}: {compare.outcomes[entry, number]}" for number in numbers)
-            print(f"{entry} by outcome: {seen}")
+        check_seen("outcomes", OUTCOMES, compare.outcomes)
+        check_seen("types", TYPES, compare.accepted)
+        print_outcomes(OUTCOMES, compare.outcomes)
     entries = {entry for entry, _ in compare.outcomes}
     print(f"{compare.calls:,} calls of {len(entries)} entries agree")
 

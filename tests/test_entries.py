@@ -15,7 +15,7 @@ sys.dont_write_bytecode = True  # leaves no files beside the tests
 
 import reference
 from entries import FILLER, SIGNATURES, Comparison, load_entries, random_buffer
-from library import Problem, run_test
+from library import Problem, check_seen, print_outcomes, run_test
 from payloads import (
     WRAPS,
     edge_payloads,
@@ -748,17 +748,11 @@ CHECKS = (
 
 # The outcomes that each entry has; 0 is accepted.
 OUTCOMES = {entry: sorted({0, *OWN.get(entry, ())}) for entry in SIGNATURES}
-LEAST_SEEN = 100  # of each outcome
 
 
 def check_coverage(compare):
     """Every outcome and every permitted command was seen; else the checks above are too thin."""
-    wanted = {(entry, number) for entry, numbers in OUTCOMES.items() for number in numbers}
-    if wanted != set(compare.outcomes):
-        raise Problem(f"outcomes that are or aren't seen: {wanted ^ set(compare.outcomes)}")
-    for (entry, number), seen in compare.outcomes.items():
-        if seen < LEAST_SEEN:
-            raise Problem(f"{entry} had the outcome {number} {seen} times only")
+    check_seen("outcomes", OUTCOMES, compare.outcomes)
     if permitted_commands() != set(compare.accepted):
         raise Problem(f"not accepted: {permitted_commands() - set(compare.accepted)}")
 
@@ -768,9 +762,7 @@ def main(checks, whole):
     compare.run(checks, SEED)
     if whole:
         check_coverage(compare)
-        for entry, numbers in OUTCOMES.items():
-            seen = ", ".join(f"{number}: {compare.outcomes[entry, number]}" for number in numbers)
-            print(f"{entry} by outcome: {seen}")
+        print_outcomes(OUTCOMES, compare.outcomes)
     print(f"{compare.calls:,} calls of {len({entry for entry, _ in compare.outcomes})} entries agree")
 
 
