@@ -1,5 +1,5 @@
--- What the walks of the entries that have the state by reference share. Such an entry copies the state from behind the reference and calls a function by value, its core, with the copy and the other parameters; where the
--- reference is a `&mut`, it stores the state of the core's result there. The other parameters and the tokens of their lifetimes go to the core as they came, and what the core says of last values and of its result is what the entry says: so nothing here looks into any of that, and of a core only its contract is known.
+-- What the walks of the entries that have a struct by reference share. What is known of the struct is one record, `Held`, and its value is called the state. Such an entry copies the state from behind the reference and calls a function by
+-- value, its core, with the copy and the other parameters; where the reference is a `&mut`, it stores the state of the core's result there. The other parameters and the tokens of their lifetimes go to the core as they came, and what the core says of last values and of its result is what the entry says: so nothing here looks into any of that, and of a core only its contract is known.
 -- A walk's context has what it holds of the references first, and the function's locals after that, in their order.
 -- Assumes nothing.
 use mathlib.Core.Path.{_≡_, refl, ap, subst, sym}
@@ -29,7 +29,7 @@ use types.Run.{Reads, Opd, Opds, Rv, Walks as Places, Finds, look, look-raw, ini
 use types.Part.{Part, agg, whole, sub, look-in}
 use types.SemTy.{Body as Borrowed}
 use sound.WpLaws.{FmC, fmOf, WpFn-mono}
-use denote.RattleType.{Denots}
+use denote.RattleType.{RattleType, Denots}
 use denote.Laws.{Is, Typed, shows}
 use denote.Shadow.{makes-shadow}
 use denote.Memory.{mem, cellAt}
@@ -41,8 +41,8 @@ use denote.Signature.{Slot, plain, mutRefTo, typeAt}
 use denote.Steps.{only, opens, closes, owned, peeks, nothing}
 use denote.Struct.Steps.{spelt}
 use denote.Struct.Field.{Field, rows, u8-field}
-use denote.Struct.Struct.{toTys}
-use denote.Struct.Declared.{Declared, row}
+use denote.Struct.Struct.{toTys, layout, Plains}
+use denote.Struct.Declared.{Declared, fields, shape, row, field as as-field}
 use denote.Struct.Laws as LL
 use denote.Triple.Entry.{Args, Res, alive}
 use denote.Triple.End.{Kepts}
@@ -54,38 +54,61 @@ use denote.Triple.Table.{entered, cited}
 use denote.Triple.Walked.{Stays, stay-ref, AllGo, goes-ref, Walks, walk-meets}
 use Rattle.refusal.proofs.Outcome as O
 use Rattle.refusal.proofs.Outcome.Laws as O′
-use Rattle.cdi_state.specs.declared.ModuleState.{ModuleState}
-use Rattle.cdi_state.proofs.ModuleState as S
-use Rattle.cdi_state.proofs.ModuleState.Laws as S′
 
--- ---- the machine value of a state, and what whoever holds one knows of it
-abbrev pub mach : ModuleState → Val
-mach s = LL.val S.the-type S′.the-laws s
+-- ---- what is known of the struct behind the reference: its declared type, its fields' laws, and that they own only facts
+pub record Held : Type 2 where
+  pub type : Declared
+  pub laws : LL.Laws type
+  pub plain : Plains (fields type)
 
-abbrev pub IsState : ModuleState → Type 0
-IsState s = Is S.the-row s (mach s ∷ [])
+module _ (S : Held) where
+  -- its values, its row, and the one machine type that the row has
+  abbrev pub State : Type 0
+  State = S .type .D
 
-pub state-typed : {M : Type 1} (𝓤 : URA M) (H : Heap 𝓤) (A : Atoms 𝓤) (W : Given 𝓤 H A) (s : ModuleState) → IsState s → T (hasTy S′.mir (mach s)) × WT (mach s)
-state-typed 𝓤 H A W s is = LL.lawful S.the-type S′.the-laws 𝓤 H A W .typed s (mach s ∷ []) is .0
+  abbrev pub the-row : RattleType
+  the-row = row (S .type)
+
+  abbrev pub the-mir : Ty
+  the-mir = layout (shape (S .type))
+
+  -- the machine value of a state, and what whoever holds one knows of it
+  abbrev pub mach : State → Val
+  mach s = LL.val (S .type) (S .laws) s
+
+  abbrev pub IsState : State → Type 0
+  IsState s = Is the-row s (mach s ∷ [])
+
+  pub state-typed : {M : Type 1} (𝓤 : URA M) (H : Heap 𝓤) (A : Atoms 𝓤) (W : Given 𝓤 H A) (s : State) → IsState s → T (hasTy the-mir (mach s)) × WT (mach s)
+  state-typed 𝓤 H A W s is = LL.lawful (S .type) (S .laws) 𝓤 H A W .typed s (mach s ∷ []) is .0
+
+  -- the struct as a field of another
+  abbrev the-field : Field
+  the-field = as-field (S .type)
+
+  abbrev the-field-laws : LL.FLaws the-field
+  the-field-laws = LL.field-laws (S .type) (S .laws) (record { mir = the-mir; lowered = mach; layout-is = refl; val-is = LL.tells (S .type) (S .laws) })
 
 -- ---- what is had of the parameters at exit: of one that went to the core, what the core says of its last value; of the state behind a `&mut`, all
 abbrev pub passed-on : {n : ℕ} (ss : List (Slot n)) (ks : Kepts ss) → Stays ss ks
 passed-on [] ks = tt
 passed-on (s ∷ ss) ks = (record { fit = λ κs x f. Unit {0}; has = λ κs x f vs. left (s .row κs .exit (ks .0)) x f }, passed-on ss (ks .1))
 
-abbrev pub state-slot : (n : ℕ) → Slot (suc n)
-state-slot n = mutRefTo (0 ∷ []) tt (plain (λ _. S.the-row))
+module _ (S : Held) where
+  abbrev pub state-slot : (n : ℕ) → Slot (suc n)
+  state-slot n = mutRefTo (0 ∷ []) tt (plain (λ _. the-row S))
 
-abbrev pub updated : {n : ℕ} (ss : List (Slot (suc n))) (ks : Kepts ss) → Stays (state-slot n ∷ ss) (yes, ks)
-updated ss ks = (stay-ref (0 ∷ []) tt (plain (λ _. S.the-row)), passed-on ss ks)
+  abbrev pub updated : {n : ℕ} (ss : List (Slot (suc n))) (ks : Kepts ss) → Stays (state-slot n ∷ ss) (yes, ks)
+  updated ss ks = (stay-ref (0 ∷ []) tt (plain (λ _. the-row S)), passed-on ss ks)
 
 module _ {M : Type 1} (𝓤 : URA M) (H : Heap 𝓤) (A : Atoms 𝓤) (W : Given 𝓤 H A) where
   pub passed-on-goes : (n : ℕ) (ss : List (Slot n)) (ks : Kepts ss) → AllGo 𝓤 H A W n ss ks (passed-on ss ks)
   passed-on-goes n [] ks = tt
   passed-on-goes n (s ∷ ss) ks = ((λ κs x f vs ok. W .laws .⇛-intro _), passed-on-goes n ss (ks .1))
 
-  pub updated-goes : (n : ℕ) (ss : List (Slot (suc n))) (ks : Kepts ss) → AllGo 𝓤 H A W (suc n) (state-slot n ∷ ss) (yes, ks) (updated ss ks)
-  updated-goes n ss ks = (goes-ref 𝓤 H A W (suc n) 0 tt (plain (λ _. S.the-row)), passed-on-goes (suc n) ss ks)
+module _ (S : Held) {M : Type 1} (𝓤 : URA M) (H : Heap 𝓤) (A : Atoms 𝓤) (W : Given 𝓤 H A) where
+  pub updated-goes : (n : ℕ) (ss : List (Slot (suc n))) (ks : Kepts ss) → AllGo 𝓤 H A W (suc n) (state-slot S n ∷ ss) (yes, ks) (updated S ss ks)
+  updated-goes n ss ks = (goes-ref 𝓤 H A W (suc n) 0 tt (plain (λ _. the-row S)), passed-on-goes 𝓤 H A W (suc n) ss ks)
 
 -- ---- from a walk to the statement
 module _ {M : Type 1} (𝓤 : URA M) (H : Heap 𝓤) (A : Atoms 𝓤) (T : Ended) (c : Clauses 𝓤 T) where
@@ -260,16 +283,16 @@ module _ {M : Type 1} (𝓤 : URA M) (H : Heap 𝓤) (A : Atoms 𝓤) (T : Ended
   tokens = raw (alive 𝓤 H A (T .signature) (y .0 .0) (y .0 .1))
 
 -- the copy of the state, and what stands beside it, P and R, are what the core asks
-pub asks : {M : Type 1} {𝓤 : URA M} {H : Heap 𝓤} {A : Atoms 𝓤} {K : Type 0} {W : Given 𝓤 H A} {Γ : List (Item 𝓤)} {E : Env 𝓤 H} {C : Calls 𝓤 H} {Λ : Loops 𝓤 H} {p : Post 𝓤 H}
+pub asks : (S : Held) {M : Type 1} {𝓤 : URA M} {H : Heap 𝓤} {A : Atoms 𝓤} {K : Type 0} {W : Given 𝓤 H A} {Γ : List (Item 𝓤)} {E : Env 𝓤 H} {C : Calls 𝓤 H} {Λ : Loops 𝓤 H} {p : Post 𝓤 H}
     {f : Name} {xs : List Operand} {d : Place} {rest : Body}
-    → K → FmC 𝓤 H (W .laws) C → (T : Ended) (c : Clauses 𝓤 T) → Triple 𝓤 (C f) (contractOf 𝓤 H A T c) → (y : contractOf 𝓤 H A T c .Ghost) {P : SProp 𝓤} {R : Fml} (s : ModuleState) → IsState s
-    → ent 𝓤 (sep 𝓤 (sep 𝓤 P (sem 𝓤 H A (fsep (S.the-row .own s (mach s ∷ [])) R))) (emp 𝓤)) (contractOf 𝓤 H A T c .pre y)
+    → K → FmC 𝓤 H (W .laws) C → (T : Ended) (c : Clauses 𝓤 T) → Triple 𝓤 (C f) (contractOf 𝓤 H A T c) → (y : contractOf 𝓤 H A T c .Ghost) {P : SProp 𝓤} {R : Fml} (s : State S) → IsState S s
+    → ent 𝓤 (sep 𝓤 (sep 𝓤 P (sem 𝓤 H A (fsep (the-row S .own s (mach S s ∷ [])) R))) (emp 𝓤)) (contractOf 𝓤 H A T c .pre y)
     → Opds K W (raw (contractOf 𝓤 H A T c .pre y) ∷ Γ) E xs (contractOf 𝓤 H A T c .args y)
     → ((v : Val) (r : Result 𝓤 H A T c y) (ws : Last 𝓤 H A T c y)
     → Seq K W (result 𝓤 H A T c y v r ∷ last 𝓤 H A T c y ws ∷ word 𝓤 H A T c y r ws ∷ tokens 𝓤 H A T c y ∷ Γ) (lands C Λ E d v rest p))
     → Seq K W (raw P ∷ ‵ R ∷ Γ) (runs C Λ E (seq (call f xs d) rest) p)
-asks {𝓤 = 𝓤} {H = H} {A = A} {W = W} t fm T c known y s is enough os k =
-    move t (1 ∷ []) $ owned t S.the-row (Is S.the-row) ((LL.makes S.the-type S′.the-plain) 𝓤 H A) s (mach s ∷ []) is $ fjoin t $ nothing t $
+asks S {𝓤 = 𝓤} {H = H} {A = A} {W = W} t fm T c known y s is enough os k =
+    move t (1 ∷ []) $ owned t (the-row S) (Is (the-row S)) (LL.makes (S .type) (S .plain) 𝓤 H A) s (mach S s ∷ []) is $ fjoin t $ nothing t $
     move t (2 ∷ 1 ∷ []) $ join t $ move t (0 ∷ 1 ∷ []) $ join t $
     use1 W (raw (contractOf 𝓤 H A T c .pre y)) enough $ calls-at t fm (contractOf 𝓤 H A T c) known y os (λ v.
     use1 W (later (some (λ (r : Result 𝓤 H A T c y). (tokens 𝓤 H A T c y ⊛ result 𝓤 H A T c y v r) ⊛ some (λ (ws : Last 𝓤 H A T c y). last 𝓤 H A T c y ws ⊛ word 𝓤 H A T c y r ws))))
@@ -285,65 +308,66 @@ enters W κ q F B B′ P R C Λ f vs Kf k = qed W (((‵ (flft κ q) ⊛ raw P) 
     split ! $ move ! (1 ∷ []) $ fsplit ! $ fsplit3 ! $ move ! (4 ∷ []) $ split ! $ keep ! (3 ∷ 4 ∷ 0 ∷ 1 ∷ 5 ∷ []) $ begins ! C Λ f vs Kf k
 
 -- the state in memory, behind a reference x that local 1 holds, is copied to local i
-pub takes-known : {M : Type 1} {𝓤 : URA M} {H : Heap 𝓤} {A : Atoms 𝓤} {K : Type 0} {W : Given 𝓤 H A} {Γ : List (Item 𝓤)} {E : Env 𝓤 H} {C : Calls 𝓤 H} {Λ : Loops 𝓤 H} {p : Post 𝓤 H} {rest : Body}
-    → K → (k : ℕ) (q : Share) (x : RefT ModuleState) {i l l₁ : ℕ} {τ₁ : Ty}
-    → Holds 𝓤 H A k Γ E 1 τ₁ l₁ (vptr (x .ptr .0) (x .ptr .1)) → Empty 𝓤 H A k Γ E i S′.mir l → IsState (x .now)
-    → Step K W (‵ (cellAt q (S.the-row .mir) (mach (x .now) ∷ []) (x .ptr .0) (x .ptr .1)) ∷ put 𝓤 H A (behind k i) (‵ (fat fullShare S′.mir l zero (mach (x .now)))) Γ) (runs C Λ E rest p)
-    (‵ (cellAt q (S.the-row .mir) (mach (x .now) ∷ []) (x .ptr .0) (x .ptr .1)) ∷ Γ) (runs C Λ E (seq (assign (place i []) (rvOpd (copy (place 1 (deref S′.mir ∷ []))))) rest) p)
-takes-known {𝓤 = 𝓤} {H = H} {A = A} {W = W} t k q x {i} at-1 at-i was =
+pub takes-known : (S : Held) {M : Type 1} {𝓤 : URA M} {H : Heap 𝓤} {A : Atoms 𝓤} {K : Type 0} {W : Given 𝓤 H A} {Γ : List (Item 𝓤)} {E : Env 𝓤 H} {C : Calls 𝓤 H} {Λ : Loops 𝓤 H} {p : Post 𝓤 H} {rest : Body}
+    → K → (k : ℕ) (q : Share) (x : RefT (State S)) {i l l₁ : ℕ} {τ₁ : Ty}
+    → Holds 𝓤 H A k Γ E 1 τ₁ l₁ (vptr (x .ptr .0) (x .ptr .1)) → Empty 𝓤 H A k Γ E i (the-mir S) l → IsState S (x .now)
+    → Step K W (‵ (cellAt q (the-row S .mir) (mach S (x .now) ∷ []) (x .ptr .0) (x .ptr .1)) ∷ put 𝓤 H A (behind k i) (‵ (fat fullShare (the-mir S) l zero (mach S (x .now)))) Γ) (runs C Λ E rest p)
+    (‵ (cellAt q (the-row S .mir) (mach S (x .now) ∷ []) (x .ptr .0) (x .ptr .1)) ∷ Γ) (runs C Λ E (seq (assign (place i []) (rvOpd (copy (place 1 (deref (the-mir S) ∷ []))))) rest) p)
+takes-known S {𝓤 = 𝓤} {H = H} {A = A} {W = W} t k q x {i} at-1 at-i was =
     assigns t (of-opd t (load t (at-spot t (spot-of 𝓤 H at-1) (hop t (look t (suc (behind k 1)) (cell-of 𝓤 H at-1)) (stop t))) (look-raw t 0 refl))) (at-spot t (spot-of 𝓤 H at-i) (stop t))
-    (init t (suc (behind k i)) (cell-of 𝓤 H at-i) (state-typed 𝓤 H A W (x .now) was))
+    (init t (suc (behind k i)) (cell-of 𝓤 H at-i) (state-typed S 𝓤 H A W (x .now) was))
 
-pub takes : {M : Type 1} {𝓤 : URA M} {H : Heap 𝓤} {A : Atoms 𝓤} {K : Type 0} {W : Given 𝓤 H A} {Γ : List (Item 𝓤)} {E : Env 𝓤 H} {C : Calls 𝓤 H} {Λ : Loops 𝓤 H} {p : Post 𝓤 H} {rest : Body}
-    → K → (q : Share) (x : RefT ModuleState) (vs : List Val) {i l l₁ : ℕ} {τ₁ : Ty} {j₀ j₁ j₂ j₃ j₄ : Item 𝓤}
-    → Holds 𝓤 H A 0 Γ E 1 τ₁ l₁ (vptr (x .ptr .0) (x .ptr .1)) → Empty 𝓤 H A 0 Γ E i S′.mir l
-    → (IsState (x .now) → Seq K W (‵ (cellAt q (S.the-row .mir) (mach (x .now) ∷ []) (x .ptr .0) (x .ptr .1)) ∷ ‵ (S.the-row .own (x .now) (mach (x .now) ∷ [])) ∷ j₀ ∷ j₁ ∷ j₂ ∷ j₃ ∷ j₄
-    ∷ put 𝓤 H A (behind 0 i) (‵ (fat fullShare S′.mir l zero (mach (x .now)))) Γ) (runs C Λ E rest p))
-    → Seq K W (‵ (cellAt q (S.the-row .mir) vs (x .ptr .0) (x .ptr .1)) ∷ ‵ (S.the-row .own (x .now) vs) ∷ j₀ ∷ j₁ ∷ j₂ ∷ j₃ ∷ j₄ ∷ Γ)
-    (runs C Λ E (seq (assign (place i []) (rvOpd (copy (place 1 (deref S′.mir ∷ []))))) rest) p)
-takes {𝓤 = 𝓤} {H = H} {A = A} t q x vs at-1 at-i k =
-    spelt t S.the-row (Is S.the-row) (shows 𝓤 H A S.the-row) (LL.vals S.the-type S′.the-laws) (LL.tells S.the-type S′.the-laws) q (x .now) vs (x .ptr .0) (x .ptr .1) $
-    move t (1 ∷ []) $ peeks t S.the-row (Is S.the-row) (shows 𝓤 H A S.the-row) (x .now) (mach (x .now) ∷ []) (λ was. move t (1 ∷ []) $ takes-known t 6 q x at-1 at-i was $ k was)
+pub takes : (S : Held) {M : Type 1} {𝓤 : URA M} {H : Heap 𝓤} {A : Atoms 𝓤} {K : Type 0} {W : Given 𝓤 H A} {Γ : List (Item 𝓤)} {E : Env 𝓤 H} {C : Calls 𝓤 H} {Λ : Loops 𝓤 H} {p : Post 𝓤 H} {rest : Body}
+    → K → (q : Share) (x : RefT (State S)) (vs : List Val) {i l l₁ : ℕ} {τ₁ : Ty} {j₀ j₁ j₂ j₃ j₄ : Item 𝓤}
+    → Holds 𝓤 H A 0 Γ E 1 τ₁ l₁ (vptr (x .ptr .0) (x .ptr .1)) → Empty 𝓤 H A 0 Γ E i (the-mir S) l
+    → (IsState S (x .now) → Seq K W (‵ (cellAt q (the-row S .mir) (mach S (x .now) ∷ []) (x .ptr .0) (x .ptr .1)) ∷ ‵ (the-row S .own (x .now) (mach S (x .now) ∷ [])) ∷ j₀ ∷ j₁ ∷ j₂ ∷ j₃ ∷ j₄
+    ∷ put 𝓤 H A (behind 0 i) (‵ (fat fullShare (the-mir S) l zero (mach S (x .now)))) Γ) (runs C Λ E rest p))
+    → Seq K W (‵ (cellAt q (the-row S .mir) vs (x .ptr .0) (x .ptr .1)) ∷ ‵ (the-row S .own (x .now) vs) ∷ j₀ ∷ j₁ ∷ j₂ ∷ j₃ ∷ j₄ ∷ Γ)
+    (runs C Λ E (seq (assign (place i []) (rvOpd (copy (place 1 (deref (the-mir S) ∷ []))))) rest) p)
+takes S {𝓤 = 𝓤} {H = H} {A = A} t q x vs at-1 at-i k =
+    spelt t (the-row S) (Is (the-row S)) (shows 𝓤 H A (the-row S)) (LL.vals (S .type) (S .laws)) (LL.tells (S .type) (S .laws)) q (x .now) vs (x .ptr .0) (x .ptr .1) $
+    move t (1 ∷ []) $ peeks t (the-row S) (Is (the-row S)) (shows 𝓤 H A (the-row S)) (x .now) (mach S (x .now) ∷ []) (λ was. move t (1 ∷ []) $ takes-known S t 6 q x at-1 at-i was $ k was)
 
 -- ---- a `&mut` to the state, x
-abbrev observed : RefT ModuleState → ModuleState → Fml
-observed x s = fobs (x .name) (S.the-row .coded .code s)
+module _ (S : Held) where
+  abbrev observed : RefT (State S) → State S → Fml
+  observed x s = fobs (x .name) (the-row S .coded .code s)
 
-abbrev lies : RefT ModuleState → Fml
-lies x = Borrowed (mem S.the-row) (x .ptr .0) (x .ptr .1) (x .name)
+  abbrev lies : RefT (State S) → Fml
+  lies x = Borrowed (mem (the-row S)) (x .ptr .0) (x .ptr .1) (x .name)
 
-module _ {M : Type 1} {𝓤 : URA M} (κ : Lft) (q : Share) (x : RefT ModuleState) where
+module _ (S : Held) {M : Type 1} {𝓤 : URA M} (κ : Lft) (q : Share) (x : RefT (State S)) where
   -- while it is whole, at the value s
-  abbrev pub whole-at : ModuleState → List (Item 𝓤) → List (Item 𝓤)
-  whole-at s Γ = ‵ (observed x s) ∷ ‵ (fbor κ (lies x)) ∷ ‵ (flft κ q) ∷ Γ
+  abbrev pub whole-at : State S → List (Item 𝓤) → List (Item 𝓤)
+  whole-at s Γ = ‵ (observed S x s) ∷ ‵ (fbor κ (lies S x)) ∷ ‵ (flft κ q) ∷ Γ
 
   -- while it is open, the state s in memory
-  abbrev pub open-with : ModuleState → List (Item 𝓤) → List (Item 𝓤)
-  open-with s Γ = ‵ (cellAt fullShare (S.the-row .mir) (mach s ∷ []) (x .ptr .0) (x .ptr .1)) ∷ ‵ (fobor κ q (lies x))
-      ∷ ‵ (observed x (x .now)) ∷ ‵ (fauth (x .name) (S.the-row .coded .code (x .now))) ∷ Γ
+  abbrev pub open-with : State S → List (Item 𝓤) → List (Item 𝓤)
+  open-with s Γ = ‵ (cellAt fullShare (the-row S .mir) (mach S s ∷ []) (x .ptr .0) (x .ptr .1)) ∷ ‵ (fobor κ q (lies S x))
+      ∷ ‵ (observed S x (x .now)) ∷ ‵ (fauth (x .name) (the-row S .coded .code (x .now))) ∷ Γ
 
   abbrev pub open-at : List (Item 𝓤) → List (Item 𝓤)
   open-at = open-with (x .now)
 
-pub enters-mut : {M : Type 1} {𝓤 : URA M} {H : Heap 𝓤} {A : Atoms 𝓤} (W : Given 𝓤 H A) (κ : Lft) (q : Share) (x : RefT ModuleState) (P : SProp 𝓤) (R : Fml)
+pub enters-mut : (S : Held) {M : Type 1} {𝓤 : URA M} {H : Heap 𝓤} {A : Atoms 𝓤} (W : Given 𝓤 H A) (κ : Lft) (q : Share) (x : RefT (State S)) (P : SProp 𝓤) (R : Fml)
     (C : Calls 𝓤 H) (Λ : Loops 𝓤 H) (f : Fn) (vs : List Val) (Kf : Val → SProp 𝓤)
-    → ((bs : Blocks (f .locals)) → Sq W (whole-at κ q x (x .now) (raw P ∷ ‵ R ∷ rooms 𝓤 (f .locals) bs)) (started C Λ f vs Kf bs))
-    → ent 𝓤 (sep 𝓤 (sep 𝓤 (sep 𝓤 (A .lft κ q) P) (sem 𝓤 H A (fsep (MutRef (named 0) κ S.the-row .own x (ptr-vals x)) R))) (emp 𝓤)) (WpFn 𝓤 H C Λ f vs Kf)
-enters-mut W κ q x = enters W κ q (at-ptr x (ptr-vals x)) (observed x (x .now)) (fbor κ (lies x))
+    → ((bs : Blocks (f .locals)) → Sq W (whole-at S κ q x (x .now) (raw P ∷ ‵ R ∷ rooms 𝓤 (f .locals) bs)) (started C Λ f vs Kf bs))
+    → ent 𝓤 (sep 𝓤 (sep 𝓤 (sep 𝓤 (A .lft κ q) P) (sem 𝓤 H A (fsep (MutRef (named 0) κ (the-row S) .own x (ptr-vals x)) R))) (emp 𝓤)) (WpFn 𝓤 H C Λ f vs Kf)
+enters-mut S W κ q x = enters W κ q (at-ptr x (ptr-vals x)) (observed S x (x .now)) (fbor κ (lies S x))
 
 -- it is opened, and the state copied
-pub copies : {M : Type 1} {𝓤 : URA M} {H : Heap 𝓤} {A : Atoms 𝓤} {K : Type 0} {W : Given 𝓤 H A} {Γ : List (Item 𝓤)} {E : Env 𝓤 H} {C : Calls 𝓤 H} {Λ : Loops 𝓤 H} {p : Post 𝓤 H} {rest : Body}
-    → K → (κ : Lft) (q : Share) (x : RefT ModuleState) {i l l₁ : ℕ} {τ₁ : Ty} {j₀ j₁ : Item 𝓤}
-    → Holds 𝓤 H A 0 Γ E 1 τ₁ l₁ (vptr (x .ptr .0) (x .ptr .1)) → Empty 𝓤 H A 0 Γ E i S′.mir l
-    → (IsState (x .now) → Seq K W (open-at κ q x (j₀ ∷ j₁ ∷ put 𝓤 H A (behind 0 i) (‵ (fat fullShare S′.mir l zero (mach (x .now)))) Γ)) (runs C Λ E rest p))
-    → Seq K W (whole-at κ q x (x .now) (j₀ ∷ j₁ ∷ Γ)) (runs C Λ E (seq (assign (place i []) (rvOpd (copy (place 1 (deref S′.mir ∷ []))))) rest) p)
-copies t κ q x at-1 at-i k = opens t tt S.the-row {h = x .now} (x .ptr .0) (x .ptr .1) (λ vs. takes t fullShare x vs at-1 at-i (λ was. move t (1 ∷ []) $ drop t $ k was))
+pub copies : (S : Held) {M : Type 1} {𝓤 : URA M} {H : Heap 𝓤} {A : Atoms 𝓤} {K : Type 0} {W : Given 𝓤 H A} {Γ : List (Item 𝓤)} {E : Env 𝓤 H} {C : Calls 𝓤 H} {Λ : Loops 𝓤 H} {p : Post 𝓤 H} {rest : Body}
+    → K → (κ : Lft) (q : Share) (x : RefT (State S)) {i l l₁ : ℕ} {τ₁ : Ty} {j₀ j₁ : Item 𝓤}
+    → Holds 𝓤 H A 0 Γ E 1 τ₁ l₁ (vptr (x .ptr .0) (x .ptr .1)) → Empty 𝓤 H A 0 Γ E i (the-mir S) l
+    → (IsState S (x .now) → Seq K W (open-at S κ q x (j₀ ∷ j₁ ∷ put 𝓤 H A (behind 0 i) (‵ (fat fullShare (the-mir S) l zero (mach S (x .now)))) Γ)) (runs C Λ E rest p))
+    → Seq K W (whole-at S κ q x (x .now) (j₀ ∷ j₁ ∷ Γ)) (runs C Λ E (seq (assign (place i []) (rvOpd (copy (place 1 (deref (the-mir S) ∷ []))))) rest) p)
+copies S t κ q x at-1 at-i k = opens t tt (the-row S) {h = x .now} (x .ptr .0) (x .ptr .1) (λ vs. takes S t fullShare x vs at-1 at-i (λ was. move t (1 ∷ []) $ drop t $ k was))
 
 -- it is closed, at the state s that lies there
-shut : {M : Type 1} {𝓤 : URA M} {H : Heap 𝓤} {A : Atoms 𝓤} {K : Type 0} {W : Given 𝓤 H A} {Γ : List (Item 𝓤)} {G : Goal 𝓤 H}
-    → K → Soaks G → (κ : Lft) (q : Share) (x : RefT ModuleState) (s : ModuleState) → IsState s → Step K W (whole-at κ q x s Γ) G (open-with κ q x s Γ) G
-shut {𝓤 = 𝓤} {H = H} {A = A} t z κ q x s is = step (λ k. owned t S.the-row (Is S.the-row) ((LL.makes S.the-type S′.the-plain) 𝓤 H A) s (mach s ∷ []) is $
-    move t (1 ∷ 0 ∷ []) $ closes t z S.the-row s (mach s ∷ []) (x .ptr .0) (x .ptr .1) $ k)
+shut : (S : Held) {M : Type 1} {𝓤 : URA M} {H : Heap 𝓤} {A : Atoms 𝓤} {K : Type 0} {W : Given 𝓤 H A} {Γ : List (Item 𝓤)} {G : Goal 𝓤 H}
+    → K → Soaks G → (κ : Lft) (q : Share) (x : RefT (State S)) (s : State S) → IsState S s → Step K W (whole-at S κ q x s Γ) G (open-with S κ q x s Γ) G
+shut S {𝓤 = 𝓤} {H = H} {A = A} t z κ q x s is = step (λ k. owned t (the-row S) (Is (the-row S)) (LL.makes (S .type) (S .plain) 𝓤 H A) s (mach S s ∷ []) is $
+    move t (1 ∷ 0 ∷ []) $ closes t z (the-row S) s (mach S s ∷ []) (x .ptr .0) (x .ptr .1) $ k)
 
 -- ---- a `&mut [u8]` a that is handed on: a pointer to its first byte is made in local i, and a slice of that pointer and the same length in local j
 abbrev first-byte : Lifetime → Ty
@@ -388,49 +412,50 @@ module _ (N : Answer) where
   pub answer-typed : {M : Type 1} (𝓤 : URA M) (H : Heap 𝓤) (A : Atoms 𝓤) (W : Given 𝓤 H A) (y : N .part .Value) → IsAnswer y → T (hasTy (N .mir) (answer-val y)) × WT (answer-val y)
   answer-typed 𝓤 H A W y is = subst (λ (τs : List Ty). Typed τs (answer-val y ∷ [])) (N .one) (N .laws .lawful 𝓤 H A W .typed (N .part .into y) (answer-val y ∷ []) is) .0
 
-  -- the result of a core, a struct by the name ν: the state after it, and the answer
-  abbrev both-val : ModuleState → N .part .Value → Val
-  both-val s y = vstruct (vcons (mach s) (vcons (answer-val y) vnil))
+-- ---- the result of a core, a struct by the name ν: the state after it, and the answer
+module _ (S : Held) (N : Answer) where
+  abbrev both-val : State S → N .part .Value → Val
+  both-val s y = vstruct (vcons (mach S s) (vcons (answer-val N y) vnil))
 
-  abbrev both-laws : LL.Lawss (S.the-field ∷ N .part ∷ [])
-  both-laws = (S′.the-field-laws, (N .laws, tt))
+  abbrev both-laws : LL.Lawss (the-field S ∷ N .part ∷ [])
+  both-laws = (the-field-laws S, (N .laws, tt))
 
-  abbrev both : ModuleState → N .part .Value → Denots (rows (S.the-field ∷ N .part ∷ []))
-  both s y = (S.the-type .to s, (N .part .into y, tt))
+  abbrev both : State S → N .part .Value → Denots (rows (the-field S ∷ N .part ∷ []))
+  both s y = (S .type .to s, (N .part .into y, tt))
 
   module _ (ν : Sym) where
     abbrev both-mir : Ty
-    both-mir = tyStruct ν (tcons S′.mir (tcons (N .mir) tnil))
+    both-mir = tyStruct ν (tcons (the-mir S) (tcons (N .mir) tnil))
 
     abbrev Both : Declared
-    Both = record { name = ν; args = []; parts = S.the-field ∷ N .part ∷ []; D = Denots (rows (S.the-field ∷ N .part ∷ [])); to = λ a. a; to-one = λ a b e. e }
+    Both = record { name = ν; args = []; parts = the-field S ∷ N .part ∷ []; D = Denots (rows (the-field S ∷ N .part ∷ [])); to = λ a. a; to-one = λ a b e. e }
 
     both-one : row Both .mir ≡ both-mir ∷ []
-    both-one = ap (λ (τs : List Ty). tyStruct ν (tcons S′.mir (toTys (τs ++ []))) ∷ []) (N .one)
+    both-one = ap (λ (τs : List Ty). tyStruct ν (tcons (the-mir S) (toTys (τs ++ []))) ∷ []) (N .one)
 
-module _ {M : Type 1} (𝓤 : URA M) (H : Heap 𝓤) (A : Atoms 𝓤) (N : Answer) (ν : Sym) (s : ModuleState) (y : N .part .Value) (Γ : List (Item 𝓤)) (i l : ℕ) where
+module _ (S : Held) {M : Type 1} (𝓤 : URA M) (H : Heap 𝓤) (A : Atoms 𝓤) (N : Answer) (ν : Sym) (s : State S) (y : N .part .Value) (Γ : List (Item 𝓤)) (i l : ℕ) where
   abbrev landed : List (Item 𝓤)
-  landed = put 𝓤 H A (behind 0 i) (‵ (fat fullShare (both-mir N ν) l zero (both-val N s y))) Γ
+  landed = put 𝓤 H A (behind 0 i) (‵ (fat fullShare (both-mir S N ν) l zero (both-val S N s y))) Γ
 
 -- the code after the call
-abbrev pub storing : ℕ → Body → Body
-storing i rest = seq (assign (place 1 (deref S′.mir ∷ [])) (rvOpd (copy (place i (field 0 ∷ []))))) (seq (assign (place 0 []) (rvOpd (copy (place i (field 1 ∷ []))))) rest)
+abbrev pub storing : Held → ℕ → Body → Body
+storing S i rest = seq (assign (place 1 (deref (the-mir S) ∷ [])) (rvOpd (copy (place i (field 0 ∷ []))))) (seq (assign (place 0 []) (rvOpd (copy (place i (field 1 ∷ []))))) rest)
 
 -- it lands in local i, its state is stored behind x, which is closed there, and its answer is the entry's
-pub stores : {M : Type 1} {𝓤 : URA M} {H : Heap 𝓤} {A : Atoms 𝓤} {K : Type 0} {W : Given 𝓤 H A} {Γ : List (Item 𝓤)} {E : Env 𝓤 H} {C : Calls 𝓤 H} {Λ : Loops 𝓤 H} {p : Post 𝓤 H}
+pub stores : (S : Held) {M : Type 1} {𝓤 : URA M} {H : Heap 𝓤} {A : Atoms 𝓤} {K : Type 0} {W : Given 𝓤 H A} {Γ : List (Item 𝓤)} {E : Env 𝓤 H} {C : Calls 𝓤 H} {Λ : Loops 𝓤 H} {p : Post 𝓤 H}
     {rest : Body} {ν : Sym} {v : Val} {i l l₀ l₁ : ℕ} {τ₁ : Ty} {j₀ j₁ j₂ : Item 𝓤}
-    → K → (N : Answer) (κ : Lft) (q : Share) (x : RefT ModuleState) (s : ModuleState) (y : N .part .Value)
-    → Empty 𝓤 H A 0 Γ E i (both-mir N ν) l → Holds 𝓤 H A 0 (landed 𝓤 H A N ν s y Γ i l) E i (both-mir N ν) l (both-val N s y)
-    → Holds 𝓤 H A 0 (landed 𝓤 H A N ν s y Γ i l) E 1 τ₁ l₁ (vptr (x .ptr .0) (x .ptr .1)) → Empty 𝓤 H A 0 (landed 𝓤 H A N ν s y Γ i l) E 0 (N .mir) l₀
-    → (IsAnswer N y → Seq K W (whole-at κ q x s (j₀ ∷ j₁ ∷ j₂ ∷ put 𝓤 H A 0 (‵ (fat fullShare (N .mir) l₀ zero (answer-val N y))) (landed 𝓤 H A N ν s y Γ i l))) (runs C Λ E rest p))
-    → Seq K W (‵ (row (Both N ν) .own (both N s y) (v ∷ [])) ∷ j₀ ∷ j₁ ∷ j₂ ∷ open-at κ q x Γ)
-    (lands C Λ E (place i []) v (storing i rest) p)
-stores {𝓤 = 𝓤} {H = H} {A = A} {W = W} {ν = ν} t N κ q x s y at-i landed-at at-1 at-0 k =
-    receives t 7 (Both N ν) (both-laws N) (both N s y) (both-one N ν) at-i (λ is.
-    let are : IsState s × (IsAnswer N y × Unit {0}) = LL.owed (Both N ν) (both-laws N) (both N s y) (both-val N s y ∷ []) is in
+    → K → (N : Answer) (κ : Lft) (q : Share) (x : RefT (State S)) (s : State S) (y : N .part .Value)
+    → Empty 𝓤 H A 0 Γ E i (both-mir S N ν) l → Holds 𝓤 H A 0 (landed S 𝓤 H A N ν s y Γ i l) E i (both-mir S N ν) l (both-val S N s y)
+    → Holds 𝓤 H A 0 (landed S 𝓤 H A N ν s y Γ i l) E 1 τ₁ l₁ (vptr (x .ptr .0) (x .ptr .1)) → Empty 𝓤 H A 0 (landed S 𝓤 H A N ν s y Γ i l) E 0 (N .mir) l₀
+    → (IsAnswer N y → Seq K W (whole-at S κ q x s (j₀ ∷ j₁ ∷ j₂ ∷ put 𝓤 H A 0 (‵ (fat fullShare (N .mir) l₀ zero (answer-val N y))) (landed S 𝓤 H A N ν s y Γ i l))) (runs C Λ E rest p))
+    → Seq K W (‵ (row (Both S N ν) .own (both S N s y) (v ∷ [])) ∷ j₀ ∷ j₁ ∷ j₂ ∷ open-at S κ q x Γ)
+    (lands C Λ E (place i []) v (storing S i rest) p)
+stores S {𝓤 = 𝓤} {H = H} {A = A} {W = W} {ν = ν} t N κ q x s y at-i landed-at at-1 at-0 k =
+    receives t 7 (Both S N ν) (both-laws S N) (both S N s y) (both-one S N ν) at-i (λ is.
+    let are : IsState S s × (IsAnswer N y × Unit {0}) = LL.owed (Both S N ν) (both-laws S N) (both S N s y) (both-val S N s y ∷ []) is in
     assigns t (of-opd t (part-of t 7 0 landed-at refl)) (at-spot t (spot-of 𝓤 H at-1) (hop t (look t (behind 7 1) (cell-of 𝓤 H at-1)) (stop t)))
-    (store-raw t 3 refl (state-typed 𝓤 H A W s (are .0))) $
-    move t (3 ∷ 4 ∷ 5 ∷ 6 ∷ []) $ shut t tt κ q x s (are .0) $
+    (store-raw t 3 refl (state-typed S 𝓤 H A W s (are .0))) $
+    move t (3 ∷ 4 ∷ 5 ∷ 6 ∷ []) $ shut S t tt κ q x s (are .0) $
     fills t 6 (of-opd t (part-of t 6 1 landed-at refl)) at-0 (answer-typed N 𝓤 H A W y (are .1 .0)) $ k (are .1 .0))
 
 -- ---- the end: the tokens, what is had of the parameters, the answer, and what the core says, which is what the entry says
@@ -439,10 +464,11 @@ module _ {M : Type 1} {𝓤 : URA M} {H : Heap 𝓤} {A : Atoms 𝓤} {K : Type 
       → Seq K W (‵ (flft κ q) ∷ raw P ∷ ‵ F ∷ ‵ R ∷ raw Q ∷ []) (prop (sep 𝓤 (sep 𝓤 (sep 𝓤 (A .lft κ q) P) (sep 𝓤 (sem 𝓤 H A F) (sem 𝓤 H A R))) Q′))
   ends {Q′ = Q′} told = join t $ move t (1 ∷ 2 ∷ []) $ join t $ move t (1 ∷ 0 ∷ []) $ join t $ move t (1 ∷ []) $ use1 W (raw Q′) told $ move t (1 ∷ []) $ frame t $ done t
 
-  pub gives : (N : Answer) (κ : Lft) (q : Share) (x : RefT ModuleState) (s : ModuleState) (y : N .part .Value) {F : Fml} {P Q Q′ : SProp 𝓤} → IsAnswer N y → ent 𝓤 Q Q′
-      → Seq K W (whole-at κ q x s (‵ (fsep ftrue F) ∷ raw Q ∷ raw P ∷ [])) (prop (sep 𝓤 (sep 𝓤 (sep 𝓤 (A .lft κ q) P)
-      (sep 𝓤 (sem 𝓤 H A (fsep (MutRef (named 0) κ S.the-row .own (at-last x s) (ptr-vals x)) F)) (sem 𝓤 H A (N .part .row .own (N .part .into y) (answer-val N y ∷ []))))) Q′))
+module _ (S : Held) {M : Type 1} {𝓤 : URA M} {H : Heap 𝓤} {A : Atoms 𝓤} {K : Type 0} {W : Given 𝓤 H A} (t : K) where
+  pub gives : (N : Answer) (κ : Lft) (q : Share) (x : RefT (State S)) (s : State S) (y : N .part .Value) {F : Fml} {P Q Q′ : SProp 𝓤} → IsAnswer N y → ent 𝓤 Q Q′
+      → Seq K W (whole-at S κ q x s (‵ (fsep ftrue F) ∷ raw Q ∷ raw P ∷ [])) (prop (sep 𝓤 (sep 𝓤 (sep 𝓤 (A .lft κ q) P)
+      (sep 𝓤 (sem 𝓤 H A (fsep (MutRef (named 0) κ (the-row S) .own (at-last x s) (ptr-vals x)) F)) (sem 𝓤 H A (N .part .row .own (N .part .into y) (answer-val N y ∷ []))))) Q′))
   gives N κ q x s y is told =
       move t (3 ∷ []) $ fsplit t $ drop t $ move t (1 ∷ 2 ∷ []) $ feqI t (List Val) (ptr-vals x) (ptr-vals x) refl $ fjoin3 t $ fjoin t $
       owned t (N .part .row) (Is (N .part .row)) (λ z vs. makes-shadow 𝓤 H A (N .part .row .own z vs) (N .plain z vs)) (N .part .into y) (answer-val N y ∷ []) is $
-      move t (2 ∷ 4 ∷ 1 ∷ 0 ∷ 3 ∷ []) $ ends told
+      move t (2 ∷ 4 ∷ 1 ∷ 0 ∷ 3 ∷ []) $ ends t told

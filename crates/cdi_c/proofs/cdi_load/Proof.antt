@@ -26,12 +26,12 @@ use denote.Triple.Entry.{Args, alive}
 use denote.Triple.Clauses.{Clauses, Lasts}
 use denote.Triple.Statement.{Triple}
 use denote.Triple.Walked.{Stays, Walks, ends-at, walked}
-use Rattle.cdi_state.proofs.ModuleState as S
-use Rattle.in_place.proofs.InPlace.{mach, updated, updated-goes, contractOf, entry-meets, says, enters-mut, copies, operand, asks, number, stores, aside, leaves, gives}
+use Rattle.in_place.proofs.InPlace.{the-row, mach, updated, updated-goes, contractOf, entry-meets, says, enters-mut, copies, operand, asks, number, stores, aside, leaves, gives}
 use Rattle.cdi_image.specs.declared.Loaded.{Loaded}
 use Rattle.cdi_image.proofs.load as core
 use Rattle.cdi_image.proofs.load.Symbol as core-def
 use Rattle.cdi_image.proofs.load.Met as core-thm
+use Rattle.cdi_c.proofs.Held.{module-state}
 use Rattle.cdi_c.proofs.cdi_load as entry
 use Rattle.cdi_c.proofs.cdi_load.Key as key
 use Rattle.cdi_c.proofs.cdi_load.Statement as stated
@@ -41,7 +41,7 @@ abbrev others : List (Slot 2)
 others = shrSliceOf (1 ∷ []) tt (plain (λ _. u8)) ∷ []
 
 abbrev stayed : Stays (entry.ended .signature .params) (entry.ended .kept)
-stayed = updated others (yes, tt)
+stayed = updated module-state others (yes, tt)
 
 module _ {M : Type 1} (𝓤 : URA M) (H : Heap 𝓤) (A : Atoms 𝓤) (W : Given 𝓤 H A) (at-mem : Memory → SProp 𝓤) (run : Routine → Fun 𝓤) where
   abbrev core-says : Clauses 𝓤 core.ended
@@ -58,23 +58,23 @@ module _ {M : Type 1} (𝓤 : URA M) (H : Heap 𝓤) (A : Atoms 𝓤) (W : Given
   module _ (C : Calls 𝓤 H) (Λ : Loops 𝓤 H) (fm : FmC 𝓤 H (W .laws) C) (known : Triple 𝓤 (C core-def.name) (contractOf 𝓤 H A core.ended core-says)) where
     walks : Walks 𝓤 H A entry.ended stayed (WpFn 𝓤 H C Λ code.function) entry-says
     walks = walked 𝓤 H A entry.ended stayed entry-says (WpFn 𝓤 H C Λ code.function) (λ κs. (ptr-vals, (slice-vals, tt)))
-        (λ κs. (mut-tells (named 0) (κs .0) S.the-row, (shr-slice-tells (named 1) (κs .1 .0) u8, tt))) (λ κs qs bounds a _ are.
+        (λ κs. (mut-tells (named 0) (κs .0) (the-row module-state), (shr-slice-tells (named 1) (κs .1 .0) u8, tt))) (λ κs qs bounds a _ are.
         let vals : List Val × Unit {0} = (slice-vals (a .1 .0), tt) in
-        enters-mut W (κs .0) (qs .0) (a .0) (alive 𝓤 H A core.signature (κs .1) (qs .1))
+        enters-mut module-state W (κs .0) (qs .0) (a .0) (alive 𝓤 H A core.signature (κs .1) (qs .1))
         (owns (ShrSlice (named 0) (κs .1 .0) u8 ∷ []) (a .1) vals) C Λ code.function (ptr-vals (a .0) ++ slice-vals (a .1 .0)) _ (λ bs.
         params1 ! $ pass1 ! (init ! 7 refl (tt, tt)) $ pass1 ! (init ! 9 refl (tt, (tt, (record { fits = are .1 .0 .0 .1 .0 }, tt)))) $ pass0 ! $
         -- the state is copied and goes to the core with the image
-        copies ! (κs .0) (qs .0) (a .0) refl refl (λ was. move ! (4 ∷ 5 ∷ []) $
-        asks ! fm core.ended core-says known ((κs .1, qs .1, tt, (a .0 .now, a .1), (mach (a .0 .now) ∷ [], vals)), tt) (a .0 .now) was (id⊢ 𝓤 _)
+        copies module-state ! (κs .0) (qs .0) (a .0) refl refl (λ was. move ! (4 ∷ 5 ∷ []) $
+        asks module-state ! fm core.ended core-says known ((κs .1, qs .1, tt, (a .0 .now, a .1), (mach module-state (a .0 .now) ∷ [], vals)), tt) (a .0 .now) was (id⊢ 𝓤 _)
         (and-then ! (operand ! 5 refl) (and-then ! (operand ! 5 refl) (no-more !))) (λ v r ws.
         -- the state of the result is stored, and its number is the answer
-        stores ! number (κs .0) (qs .0) (a .0) (r .state) (r .refusal) refl refl refl refl (λ is.
+        stores module-state ! number (κs .0) (qs .0) (a .0) (r .state) (r .refusal) refl refl refl refl (λ is.
         returns ! (look ! 6 refl) $ aside ! 6 $ leaves ! $ leaves ! $ leaves ! $ leaves ! $ leaves ! $ free0 ! $
         suffices ! _ (ends-at 𝓤 H A entry.ended stayed entry-says W ((κs, qs, bounds, a, (ptr-vals (a .0), vals)), tt) _ (r .refusal) (r .state, ws .1) (tt, (tt, tt))) $
-        gives ! number (κs .0) (qs .0) (a .0) (r .state) (r .refusal) is (told κs a r ws))))))
+        gives module-state ! number (κs .0) (qs .0) (a .0) (r .state) (r .refusal) is (told κs a r ws))))))
 
 pub cdi-load-spec : {M : Type 1} → stated.statement M
 unfolding code.routine
-cdi-load-spec 𝓤 H 𝓜 𝓖 𝓡 = entry-meets 𝓤 H 𝓜 𝓖 𝓡 entry.ended (entry.clauses 𝓤 H (𝓖 .A) (𝓜 .mem) (𝓡 .run)) stayed (updated-goes 𝓤 H (𝓖 .A) (givenOf 𝓤 H 𝓜 𝓖) 1 others (yes, tt))
+cdi-load-spec 𝓤 H 𝓜 𝓖 𝓡 = entry-meets 𝓤 H 𝓜 𝓖 𝓡 entry.ended (entry.clauses 𝓤 H (𝓖 .A) (𝓜 .mem) (𝓡 .run)) stayed (updated-goes module-state 𝓤 H (𝓖 .A) (givenOf 𝓤 H 𝓜 𝓖) 1 others (yes, tt))
     code.env key.name code.function (code.unfolded 𝓤 H 𝓜 𝓡) (contractOf 𝓤 H (𝓖 .A) core.ended (core.clauses 𝓤 H (𝓖 .A) (𝓜 .mem) (𝓡 .run)))
     core-def.name core-def.routine code.calls-cdi-image·load (core-thm.met 𝓤 H 𝓜 𝓖 𝓡) (walks 𝓤 H (𝓖 .A) (givenOf 𝓤 H 𝓜 𝓖) (𝓜 .mem) (𝓡 .run))

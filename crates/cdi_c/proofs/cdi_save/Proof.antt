@@ -38,6 +38,7 @@ use Rattle.in_place.proofs.InPlace.{mach, passed-on, passed-on-goes, contractOf
 use Rattle.cdi_image.proofs.save as core
 use Rattle.cdi_image.proofs.save.Symbol as core-def
 use Rattle.cdi_image.proofs.save.Met as core-thm
+use Rattle.cdi_c.proofs.Held.{module-state}
 use Rattle.cdi_c.proofs.cdi_save as entry
 use Rattle.cdi_c.proofs.cdi_save.Key as key
 use Rattle.cdi_c.proofs.cdi_save.Statement as stated
@@ -69,9 +70,9 @@ module _ {M : Type 1} (𝓤 : URA M) (H : Heap 𝓤) (A : Atoms 𝓤) (W : Given
         -- the reference is looked into for a share of the state, which is copied, and shut again
         move ! (1 ∷ 2 ∷ []) $ looks ! tt S.the-row (Is S.the-row) (shows 𝓤 H A S.the-row) (LL.vals S.the-type S′.the-laws) (LL.tells S.the-type S′.the-laws)
         ((LL.copy S.the-type S′.the-copy) 𝓤 H A W) (a .0 .now) (a .0 .ptr .0) (a .0 .ptr .1) (λ q vs.
-        takes ! q (a .0) vs refl refl (λ was. shuts ! tt S.the-row q (a .0 .now) (mach (a .0 .now) ∷ []) (a .0 .ptr .0) (a .0 .ptr .1) $
+        takes module-state ! q (a .0) vs refl refl (λ was. shuts ! tt S.the-row q (a .0 .now) (mach module-state (a .0 .now) ∷ []) (a .0 .ptr .0) (a .0 .ptr .1) $
         hands-on ! 5 (a .1 .0) (are .1 .0 .0 .1) refl refl refl refl refl $ move ! (3 ∷ 4 ∷ []) $
-        asks ! fm core.ended core-says known ((κs .1, qs .1, tt, (a .0 .now, a .1), (mach (a .0 .now) ∷ [], vals)), tt) (a .0 .now) was (id⊢ 𝓤 _)
+        asks module-state ! fm core.ended core-says known ((κs .1, qs .1, tt, (a .0 .now, a .1), (mach module-state (a .0 .now) ∷ [], vals)), tt) (a .0 .now) was (id⊢ 𝓤 _)
         (and-then ! (operand ! 4 refl) (and-then ! (operand ! 4 refl) (no-more !))) (λ v r ws.
         -- the answer is the entry's
         peeks ! O.the-row (Is O.the-row) (shows 𝓤 H A O.the-row) r (v ∷ []) (λ is. land ! (from ! (stop !)) (init ! 7 refl (LL.lawful O.the-type O′.the-laws 𝓤 H A W .typed r (v ∷ []) is .0)) $
