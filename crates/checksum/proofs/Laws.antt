@@ -1,16 +1,19 @@
--- The two laws of a sum at the end of a packet, over where it begins: what a writer puts there passes, and nothing else does; a packet
--- that passes does not pass with one summed byte changed.
+-- The laws of a sum at the end of a packet, over where it begins: what a writer puts there passes, and nothing else does; a packet that
+-- passes does not pass with one summed byte changed; and what a reader finds of a packet that was written.
 -- Assumes nothing.
 use Prim.Native.Nat.{ℕ, _+_, _-_, _<_, _≤_}
 use mathlib.Core.Path.{_≡_, refl, sym, ap, _∙_}
 use mathlib.Core.Bool.{true, false}
-use mathlib.Core.List.{List, [], _∷_}
+use mathlib.Core.List.{List, [], _∷_, _++_, append-assoc}
 use native.Mathlib.Omega.{arith}
 use borrow.Author.Tests.{eq-eqb, ne-eqb, eqb-true}
 use lib.ListN.{length, getD, set, take, drop, length-append, length-set, length-drop, take-append-drop}
-use lib.Seq.{take-at, getD-at, take-set-lt, getD-set-other, getD-take, getD-drop, drop-set-add, length-take-le}
+use lib.Seq.{take-at, getD-at, getD-append-add, take-append-seam, drop-append-seam, take-set-lt, getD-set-other, getD-take, getD-drop, drop-set-add, length-take-le}
+use Rattle.logic.specs.Lists.{part}
+use Rattle.logic.specs.Written.{written}
 use Rattle.logic.proofs.Bytes.{Bytes, bytes-take, bytes-drop}
 use Rattle.logic.proofs.Rest.{one-more, nothing-left}
+use Rattle.logic.proofs.Written.{written-one}
 use Rattle.checksum.specs.Checksum.{byteSum, sumFrom, summed, sumHolds}
 use Rattle.checksum.proofs.Sums.{sum-tells}
 
@@ -18,12 +21,36 @@ module _ (start last : ℕ) (bytes : List ℕ) where
   pub summed-length : length (summed start last bytes) ≡ length bytes + 2
   summed-length = length-append bytes _
 
+  -- the last byte is where a reader looks for it
+  pub summed-last : getD (summed start last bytes) (length (summed start last bytes) - 1) 0 ≡ last
+  summed-last =
+      let n : length (summed start last bytes) - 1 ≡ length bytes + 1 = omega (arith, summed-length) in
+      ap (λ (i : ℕ). getD (summed start last bytes) i 0) n ∙ getD-append-add bytes (sumFrom start bytes ∷ last ∷ []) 1 0
+
   -- what a writer puts at the end passes
   pub written-passes : sumHolds start (summed start last bytes) ≡ true
   written-passes =
       let n : length (summed start last bytes) - 2 ≡ length bytes = omega (arith, summed-length) in
       rw (n, take-at bytes (sumFrom start bytes ∷ last ∷ []) (length bytes), getD-at bytes (sumFrom start bytes) (last ∷ []) 0 (length bytes))
       (eq-eqb (sumFrom start bytes) (sumFrom start bytes) refl)
+
+-- of bytes after a head, those are found again that are not the head's
+pub summed-after : (start last : ℕ) (head bytes : List ℕ) → part (length head) (length bytes) (summed start last (head ++ bytes)) ≡ bytes
+summed-after start last head bytes =
+    let tail = sumFrom start (head ++ bytes) ∷ last ∷ [] in
+    ap (take (length bytes)) (ap (drop (length head)) (append-assoc head bytes tail) ∙ drop-append-seam head (bytes ++ tail)) ∙
+    take-append-seam bytes tail
+
+-- the sum and the last byte, stored after bytes that are written over the front of a buffer, make up the packet there
+pub summed-written : (start last : ℕ) (s bytes : List ℕ) → length bytes + 2 ≤ length s
+    → set (set (written s bytes) (length bytes) (sumFrom start bytes)) (length bytes + 1) last ≡ written s (summed start last bytes)
+summed-written start last s bytes h =
+    let sum = sumFrom start bytes in
+    let n : length bytes + 1 ≡ length (bytes ++ sum ∷ []) = sym (length-append bytes (sum ∷ [])) in
+    ap (λ (l : List ℕ). set l (length bytes + 1) last) (written-one s bytes sum (omega arith)) ∙
+    ap (λ (i : ℕ). set (written s (bytes ++ sum ∷ [])) i last) n ∙
+    written-one s (bytes ++ sum ∷ []) last (omega arith) ∙
+    ap (written s) (append-assoc bytes (sum ∷ []) (last ∷ []))
 
 -- and a packet that passes was written so
 pub passes-as-written : (start : ℕ) (packet : List ℕ) → 2 ≤ length packet → sumHolds start packet ≡ true

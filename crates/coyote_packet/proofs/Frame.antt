@@ -7,15 +7,16 @@ use mathlib.Core.List.{List, [], _∷_, _++_}
 use native.Mathlib.Omega.{arith}
 use borrow.Author.Tests.{eq-eqb, eqb-true}
 use lib.Dec.{eqb}
-use lib.ListN.{length, getD, take, drop}
-use lib.Seq.{take-at, length-take-le, getD-append-add}
+use lib.ListN.{length, getD, take}
+use lib.Seq.{length-take-le}
+use Rattle.logic.specs.Lists.{part}
 use Rattle.logic.proofs.Bytes.{Bytes}
 use Rattle.refusal.specs.Refusal.{accepted}
 use Rattle.refusal.proofs.Results.{else-refused}
-use Rattle.checksum.specs.Checksum.{sumFrom, summed, sumHolds}
-use Rattle.checksum.proofs.Laws.{written-passes, passes-as-written}
+use Rattle.checksum.specs.Checksum.{summed, sumHolds}
+use Rattle.checksum.proofs.Laws.{summed-last, summed-after, written-passes, passes-as-written}
 use Rattle.coyote_packet.specs.declared.Packet.{Packet}
-use Rattle.coyote_packet.specs.Layout.{start, end, front, sumStart, packetBytes}
+use Rattle.coyote_packet.specs.Layout.{start, end, lowFirst, front, sumStart, packetBytes}
 use Rattle.coyote_packet.specs.Read.{payloadStart, overhead, payloadIn, wordAt, endsHold, lengthHolds, readPayload, readPacket}
 use Rattle.coyote_packet.proofs.Lengths.{packet-length}
 
@@ -24,26 +25,17 @@ pub word-is : (n : ℕ) → n % 256 + 256 * (n / 256) ≡ n
 word-is n = omega arith
 
 module _ (type : ℕ) (payload : List ℕ) where
-  -- bytes of a packet from the payload on
-  pub behind-head : drop payloadStart (packetBytes type payload) ≡ payload ++ sumFrom sumStart (front type payload) ∷ end ∷ []
-  unfolding packetBytes
-  behind-head = refl
-
   pub payload-back : payloadIn (packetBytes type payload) ≡ payload
+  unfolding packetBytes
   payload-back =
       let n : length (packetBytes type payload) - overhead ≡ length payload = omega (arith, packet-length type payload) in
-      rw (n, behind-head) (take-at payload _ (length payload) refl)
-
-  last-byte : getD (packetBytes type payload) (length (packetBytes type payload) - 1) 0 ≡ end
-  unfolding packetBytes
-  last-byte =
-      let l = front type payload in
-      let n : length (packetBytes type payload) - 1 ≡ length l + 1 = omega (arith, packet-length type payload) in
-      ap (λ (i : ℕ). getD (packetBytes type payload) i 0) n ∙ getD-append-add l (sumFrom sumStart l ∷ end ∷ []) 1 0
+      ap (λ (k : ℕ). part payloadStart k (packetBytes type payload)) n ∙
+      summed-after sumStart end (start ∷ type ∷ lowFirst (length payload)) payload
 
   ends-hold : endsHold (packetBytes type payload) ≡ true
   unfolding packetBytes
-  ends-hold = eq-eqb (getD (packetBytes type payload) (length (packetBytes type payload) - 1) 0) end last-byte
+  ends-hold =
+      eq-eqb (getD (packetBytes type payload) (length (packetBytes type payload) - 1) 0) end (summed-last sumStart end (front type payload))
 
   length-holds : lengthHolds (packetBytes type payload) ≡ true
   unfolding packetBytes
