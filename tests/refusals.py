@@ -39,9 +39,14 @@ REFUSALS = (
     Refusal(18, "IMAGE_MARK", "the image's mark is wrong"),
     Refusal(19, "IMAGE_VERSION", "the image's version is not 1"),
     Refusal(24, "PACKET_ENDS", "the packet's first or last byte is wrong, or the block is empty"),
-    Refusal(25, "PACKET_LENGTH", "the packet's length bytes do not give the block's length"),
+    Refusal(
+        25,
+        "PACKET_LENGTH",
+        "the packet's length bytes do not give the block's length, or a Freestar packet's total is under 5",
+    ),
     Refusal(26, "PACKET_SUM", "the packet's sum is wrong"),
     Refusal(27, "PACKET_CONTENT", "the packet's type is not served, or what it holds is not accepted"),
+    Refusal(28, "PAN_ID_OVER", "a PAN ID is over 14 bits: it is 16,384 or more"),
 )
 NUMBERS = {refusal.name: refusal.number for refusal in REFUSALS}
 
@@ -51,12 +56,13 @@ NUMBERS = {refusal.name: refusal.number for refusal in REFUSALS}
 PAYLOAD = "7, 8, 9, 10, 8, 11, 12"
 BLOCK = f"3 to 6, {PAYLOAD}"
 
-# The numbers of a Coyote packet that is read, and of one that is written.
+# The numbers of a packet that is read, and of a Coyote packet that is written. A Freestar packet adds 28,
+# before 13.
 PACKET_READ = "24, 25, 26, 27"
 PACKET_WRITTEN = "27, 13"
 
 # The C libraries. The name of an entry begins with its library's; the replay program is no library's.
-LIBRARIES = "cdi", "coyote"
+LIBRARIES = "cdi", "coyote", "freestar"
 
 # The numbers of each entry. The replay program has 22 bytes for each response and starts from a valid
 # state.
@@ -75,6 +81,9 @@ ORDERS = {
     "coyote_encode_failure": PACKET_WRITTEN,
     "coyote_export_charge": PACKET_WRITTEN,
     "coyote_import_charge": PACKET_READ,
+    "freestar_decode": f"{PACKET_READ}, 28",
+    "freestar_encode": "27, 28, 13",
+    "freestar_execute": f"{PACKET_READ}, 28, 13",
 }
 
 

@@ -21,6 +21,7 @@ HEADERS = {library: f"include/{library}.h" for library in LIBRARIES}
 REFERENCES = {
     "cdi": ("tests/reference.py", '# ---- 01, "Numbers that a refusal carries"'),
     "coyote": ("tests/coyote_reference.py", "# ---- Refusals"),
+    "freestar": ("tests/freestar_reference.py", "# ---- Refusals"),
 }
 
 # A refusal that is written as a number, in the source and in the definitions.
