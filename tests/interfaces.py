@@ -1,13 +1,15 @@
 """The C SDK as it was agreed with the controllers: of each library the files, the header's numbers, structs and functions, and what
-it calls; of each example what it prints. The numbers are those of the documents: 01 for the CDI, 003 and 02's Ask 10 for Coyote.
+it calls; of each example what it prints. The numbers are those of the documents: 01 for the CDI, 003 and 02's Ask 10 for Coyote, 004
+and 02's Ask 11 for Freestar.
 """
 
 import collections
 
 import coyote_entries
 import entries
+import freestar_entries
 import states
-from library import ANALOG_INPUT, ROOT
+from library import ANALOG_INPUT, OUTCOME, ROOT
 
 SDK = ROOT / "target" / "sdk"
 
@@ -74,7 +76,7 @@ CDI = Interface(
         "cdi_working": states.WORKING,
         "cdi_live": states.LIVE,
         "cdi_module_state": states.STATE,
-        "cdi_outcome": entries.OUTCOME,
+        "cdi_outcome": OUTCOME,
         "cdi_readout_result": entries.READOUT_RESULT,
     },
     functions="""
@@ -111,7 +113,7 @@ COYOTE = Interface(
             RESTRICTED=5,
         ),
     },
-    structs={"coyote_outcome": coyote_entries.OUTCOME, "coyote_packet": coyote_entries.PACKET, "coyote_charge": coyote_entries.CHARGE},
+    structs={"coyote_outcome": OUTCOME, "coyote_packet": coyote_entries.PACKET, "coyote_charge": coyote_entries.CHARGE},
     functions="""
 coyote_packet coyote_decode(const uint8_t *block, size_t block_len);
 coyote_outcome coyote_encode_addressed(uint8_t type, uint8_t source_group, uint8_t source_address, \
@@ -127,7 +129,48 @@ coyote_charge coyote_import_charge(const uint8_t *block, size_t block_len);
     calls=set(),
 )
 
-INTERFACES = CDI, COYOTE
+FREESTAR = Interface(
+    name="freestar",
+    header="include/freestar.h",
+    archive="lib/libfreestar.a",
+    shared="lib/libfreestar.so",
+    package="lib/pkgconfig/freestar.pc",
+    numbers={
+        **named("FREESTAR", PACKET_MAX=15, OVERHEAD=5, DATA_START=3, DATA_MAX=10, PAN_ID_LIMIT=0x4000),
+        **named(
+            "FREESTAR_TYPE",
+            SET_PAN_ID=0x01,
+            QUERY_PAN_ID=0x02,
+            SET_ADDRESS=0x03,
+            QUERY_ADDRESS=0x04,
+            SET_CHANNEL=0x05,
+            QUERY_CHANNEL=0x06,
+            RESET=0x18,
+            SET_PAN_ID_ACKNOWLEDGED=0x81,
+            RESPOND_PAN_ID=0x82,
+            SET_ADDRESS_ACKNOWLEDGED=0x83,
+            RESPOND_ADDRESS=0x84,
+            SET_CHANNEL_ACKNOWLEDGED=0x85,
+            RESPOND_CHANNEL=0x86,
+            RESET_ACKNOWLEDGED=0x98,
+        ),
+    },
+    structs={
+        "freestar_outcome": OUTCOME,
+        "freestar_settings": freestar_entries.SETTINGS,
+        "freestar_message": freestar_entries.MESSAGE,
+    },
+    functions="""
+freestar_message freestar_decode(const uint8_t *block, size_t block_len);
+freestar_outcome freestar_encode(uint8_t type, const uint8_t *data, size_t data_len, uint8_t *packet, size_t packet_len);
+freestar_outcome freestar_execute(freestar_settings *settings, const uint8_t *block, size_t block_len, \
+uint8_t *response, size_t response_len);
+""",
+    signatures=freestar_entries.SIGNATURES,
+    calls=set(),
+)
+
+INTERFACES = CDI, COYOTE, FREESTAR
 
 # What they print is worked out by hand.
 EXAMPLES = (
@@ -158,6 +201,32 @@ packet     AA 13 0A 00 01 02 01 03 80 03 00 02 DE B8 3F 55
 yard       input 2, readout 57016, 87 percent
 import     refused 26
 export     refused 27
+done
+""",
+    ),
+    Example(
+        "settings_over_freestar",
+        (FREESTAR,),
+        """\
+host       01 07 01 34 12 4F 04
+radio      01 05 81 87 04
+host       01 0F 03 EF CD AB 89 67 45 23 01 07 00 DA 04
+radio      01 05 83 89 04
+host       01 06 05 14 20 04
+radio      01 05 85 8B 04
+host       01 05 18 1E 04
+radio      01 05 98 9E 04
+host       01 05 02 08 04
+radio      01 07 82 34 12 D0 04
+host       01 05 04 0A 04
+radio      01 0F 84 EF CD AB 89 67 45 23 01 07 00 5B 04
+host       01 05 06 0C 04
+radio      01 06 86 14 A1 04
+settings   PAN ID 1234, long address 0123456789ABCDEF, short address 0007, channel 20
+encode     refused 28
+execute    refused 28
+execute    refused 26
+execute    refused 27
 done
 """,
     ),
