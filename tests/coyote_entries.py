@@ -8,14 +8,13 @@ import operator
 
 import coyote_reference as reference
 from coyote_reference import FAILURE, READ_MEM, SUCCESS
-from library import BYTE, POINTER, SIZE, Calls, Memory, load, sdk, struct
+from library import BLOCK, BYTE, OUTCOME, Memory, PacketCalls, load, sdk, struct
 
 # ---- The library -----------------------------------------------------------------------------
 
 SHORT = ctypes.c_uint16
 
 # What the entries return, and each entry's result and arguments.
-OUTCOME = struct(refusal=BYTE, length=SIZE)
 PACKET = struct(
     refusal=BYTE,
     type=BYTE,
@@ -33,7 +32,6 @@ PACKET = struct(
 CHARGE = struct(refusal=BYTE, input=BYTE, readout=SHORT)
 assert [ctypes.sizeof(result) for result in (OUTCOME, PACKET, CHARGE)] == [16, 16, 4]
 
-BLOCK = POINTER, SIZE  # an input or a buffer
 SOURCE = BYTE, BYTE
 SIGNATURES = {
     "coyote_decode": (PACKET, BLOCK),
@@ -98,15 +96,13 @@ PACKET_FIELDS = operator.attrgetter(*reference.Packet._fields)
 CHARGE_FIELDS = operator.attrgetter(*reference.Charge._fields)
 
 
-class Comparison(Calls):
+class Comparison(PacketCalls):
     """A method for each entry of the library: it calls the library and the reference, compares
     every field returned and every byte of the memory handed over, and returns the result."""
 
     def __init__(self, library):
         super().__init__(library)
         self.targets = Memory(140_000, odd=True)
-        self.outcomes = collections.Counter()  # calls, by entry and refusal
-        self.accepted = collections.Counter()  # accepted calls, by entry and type
         self.writers = {
             Addressed: self.encode_addressed,
             ReadMemory: self.encode_read_memory,
@@ -114,17 +110,6 @@ class Comparison(Calls):
             Failure: self.encode_failure,
             Export: self.export_charge,
         }
-
-    def agree(self, entry, expected, came, packet_type, **inputs):
-        """Counts one call and compares what came; `packet_type` is the type of an accepted packet."""
-        self.calls += 1
-        self.outcomes[entry, expected[0]] += 1
-        if expected[0] == reference.ACCEPTED:
-            self.accepted[entry, packet_type] += 1
-        self.same(entry, expected, came, **inputs)
-
-    def unchanged(self, entry, memory, **inputs):
-        self.same(f"an input of {entry}", memory.given, memory.content(), **inputs)
 
     # The readers.
 

@@ -7,14 +7,13 @@ import ctypes
 import sys
 
 import reference
-from library import BYTE, POINTER, SIZE, Calls, Memory, load, sdk, struct
+from library import BYTE, OUTCOME, POINTER, SIZE, Calls, Memory, load, sdk, struct
 from reference import FACTORY_STATE, READ, READ_NV
 from states import STATE, STATE_SIZE, changed, first_difference, first_place, packed
 
 # ---- The library -----------------------------------------------------------------------------
 
 # Each entry's result and arguments. A state, like any memory, is handed over by its address.
-OUTCOME = struct(refusal=BYTE, length=SIZE)
 READOUT_RESULT = struct(refusal=BYTE, readout=ctypes.c_uint16)
 SIGNATURES = {
     "cdi_factory": (STATE, ()),

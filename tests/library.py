@@ -1,7 +1,8 @@
 """What the tests share: running a test's checks, building a shared library, memory between guard bytes,
-and the comparison that ends with the first difference.
+the comparison that ends with the first difference, and some bytes to hand over.
 """
 
+import collections
 import contextlib
 import ctypes
 import fcntl
@@ -61,6 +62,8 @@ def struct(**fields):
 
 
 ANALOG_INPUT = struct(channel=BYTE, readings=BYTE, reference=BYTE, offset=2 * BYTE)
+OUTCOME = struct(refusal=BYTE, length=SIZE)  # of an entry that fills a buffer
+BLOCK = POINTER, SIZE  # the two arguments that are an input, or a buffer
 
 
 def run(*words):
@@ -194,6 +197,27 @@ class Calls:
             print(f"{check.__name__}: {self.calls - before} calls")
 
 
+class PacketCalls(Calls):
+    """Calls of a library of packets, counted by entry."""
+
+    def __init__(self, library):
+        super().__init__(library)
+        self.outcomes = collections.Counter()  # calls, by entry and refusal
+        self.accepted = collections.Counter()  # accepted calls, by entry and type
+
+    def agree(self, entry, expected, came, packet_type, **inputs):
+        """Counts one call and compares what came, the refusal first; `packet_type` is the type of an
+        accepted packet."""
+        self.calls += 1
+        self.outcomes[entry, expected[0]] += 1
+        if expected[0] == 0:
+            self.accepted[entry, packet_type] += 1
+        self.same(entry, expected, came, **inputs)
+
+    def unchanged(self, entry, memory, **inputs):
+        self.same(f"an input of {entry}", memory.given, memory.content(), **inputs)
+
+
 LEAST_SEEN = 100  # of each kind of call that a comparison counts
 
 
@@ -209,3 +233,18 @@ def check_seen(what, kinds, seen):
 def print_outcomes(kinds, seen):
     for entry, numbers in kinds.items():
         print(f"{entry} by outcome: " + ", ".join(f"{number}: {seen[entry, number]}" for number in numbers))
+
+
+# ---- Bytes that tests of packets hand over ---------------------------------------------------
+
+# Added to a size, these leave its lowest one or two bytes as they were.
+WRAPS = (2**8, 2**16, 2**17)
+
+
+def filler(size):
+    """What a buffer holds before a call."""
+    return (bytes(range(0x21, 0x71)) * (size // 80 + 1))[:size]
+
+
+def with_byte(block, at, byte):
+    return block[:at] + bytes([byte]) + block[at + 1 :]

@@ -9,9 +9,9 @@ command and item, on damaged frames and lines, at the borders of a read and on b
 starts from the factory state and so never meets a name, live cells, an invalid state or a short
 response buffer; with these the peer's module is called by itself and compared with reference.py.
 
-The peer of the Coyote packets is called and compared with coyote_reference.py, and the programs whose
-calls bench/run counts have to print the same with the library and with the peer. The first difference
-ends the run with exit status 1.
+The peers of the Coyote packets and of the Freestar messages are called and compared with
+coyote_reference.py and freestar_reference.py, and the programs whose calls bench/run counts have to
+print the same with the library and with the peer. The first difference ends the run with exit status 1.
 """
 
 import collections
@@ -27,13 +27,30 @@ sys.path.append(str(pathlib.Path(__file__).resolve().parent.parent / "bench"))
 sys.dont_write_bytecode = True  # leaves no files beside the tests
 
 import coyote_entries
+import freestar_entries
 import measure
 import reference
 import traffic
 from cases import refused_payloads
 from coyote_entries import Addressed, Export, Failure, ReadMemory, Success, counted, mended, packet
-from entries import FILLER, OUTCOME, random_buffer
-from library import POINTER, ROOT, SIZE, Calls, Memory, Problem, load, run_test, same_sets, sdk
+from entries import FILLER, random_buffer
+from freestar_entries import Message
+from freestar_reference import HOST, SERVED, Settings
+from library import (
+    OUTCOME,
+    POINTER,
+    ROOT,
+    SIZE,
+    WRAPS,
+    Calls,
+    Memory,
+    Problem,
+    check_seen,
+    load,
+    run_test,
+    same_sets,
+    sdk,
+)
 from logs import (
     BORDER,
     HOSTILE_LINES,
@@ -106,11 +123,11 @@ def modules(folder):
         yield name, load(path, SIGNATURES)
 
 
-def coyote_peer(folder):
-    """The peer of the Coyote packets, with its functions under the library's names."""
-    path = compiled(folder / "coyote_peer.so", "-shared", "-fPIC", "bench/coyote_peer.c")
-    names = {name: name.replace("coyote_", "coyote_peer_", 1) for name in coyote_entries.SIGNATURES}
-    peer = load(path, {names[name]: signature for name, signature in coyote_entries.SIGNATURES.items()})
+def peer_of(folder, library, signatures):
+    """The peer of a library of packets, with its functions under the library's names."""
+    path = compiled(folder / f"{library}_peer.so", "-shared", "-fPIC", f"bench/{library}_peer.c")
+    names = {name: name.replace(f"{library}_", f"{library}_peer_", 1) for name in signatures}
+    peer = load(path, {names[name]: signature for name, signature in signatures.items()})
     return types.SimpleNamespace(**{name: getattr(peer, own) for name, own in names.items()})
 
 
@@ -555,14 +572,133 @@ def check_coyote_coverage(peer):
             raise Problem(f"the calls of {entry} by refusal are too few: {sorted(seen.items())}")
 
 
-# ---- Counted calls of Coyote packets ---------------------------------------------------------
+# ---- Freestar messages -----------------------------------------------------------------------
+
+ADDRESSES = bytes(range(1, 11))
+FREESTAR_LONGEST = 15
+
+# A message of each type, and PAN IDs at both sides of the limit.
+FREESTAR_MESSAGES = (
+    *(Message(kind, ADDRESSES[:size]) for kind, size in SERVED.items()),
+    *(Message(kind, pan_id) for kind in (0x01, 0x82) for pan_id in (b"\xff\x3f", b"\x00\x40", b"\x00\x80")),
+    Message(0x05, b"\xff"),
+)
+
+# The last three have a PAN ID that is refused.
+FREESTAR_SETTINGS = (
+    Settings(bytes(2), bytes(8), bytes(2), bytes(1)),
+    Settings(b"\xff\x3f", 8 * b"\xff", 2 * b"\xff", b"\xff"),
+    Settings(b"\x34\x12", bytes(range(0x11, 0x19)), b"\x19\x1a", b"\x1b"),
+    Settings(b"\x00\x40", bytes(8), bytes(2), bytes(1)),
+    Settings(b"\xff\x80", bytes(8), bytes(2), bytes(1)),
+    Settings(b"\x34\xff", bytes(range(0x11, 0x19)), b"\x19\x1a", b"\x1b"),
+)
+
+
+def judge_freestar(peer, rng, block):
+    """Reads a block, and executes it on each of the settings, with a buffer that is mostly long enough."""
+    peer.circle(block)
+    for settings in FREESTAR_SETTINGS:
+        size = rng.choice((FREESTAR_LONGEST, FREESTAR_LONGEST, rng.randrange(20)))
+        peer.step(settings, block, rng.randbytes(size))
+
+
+def check_freestar_buffers(peer, rng):
+    """Each message in buffers of every length around its own, and executed with such buffers for the answer."""
+    for message, size in itertools.product(FREESTAR_MESSAGES, (*range(20), 300)):
+        peer.reread(message, rng.randbytes(size))
+        for settings in FREESTAR_SETTINGS:
+            peer.step(settings, freestar_entries.packet(*message), rng.randbytes(size))
+
+
+def check_freestar_types(peer, rng):
+    """Every type with data of every length up to two bytes over the longest."""
+    for kind, size in itertools.product(range(256), range(13)):
+        peer.reread(Message(kind, ADDRESSES.ljust(size, b"\x0b")[:size]), rng.randbytes(FREESTAR_LONGEST))
+        judge_freestar(peer, rng, freestar_entries.packet(kind, bytes(size)))
+
+
+def check_freestar_pan_ids(peer, rng):
+    """Every high byte of a PAN ID, in the messages that have one and in the settings."""
+    for high, low in itertools.product(range(256), (0x00, 0x40, 0xFF)):
+        pan_id = bytes([low, high])
+        for kind in (0x01, 0x82):
+            peer.reread(Message(kind, pan_id), rng.randbytes(rng.randrange(20)))
+            judge_freestar(peer, rng, freestar_entries.packet(kind, pan_id))
+        for kind, size in HOST.items():
+            block = freestar_entries.packet(kind, ADDRESSES[:size])
+            peer.step(FREESTAR_SETTINGS[2]._replace(pan_id=pan_id), block, rng.randbytes(FREESTAR_LONGEST))
+
+
+def check_freestar_damage(peer, rng):
+    """Packets that are damaged at each place, with the sum as it was and with a right one."""
+    for message in FREESTAR_MESSAGES:
+        whole = freestar_entries.packet(*message)
+        for block in itertools.chain.from_iterable(damaged(whole, at) for at in range(len(whole))):
+            judge_freestar(peer, rng, block)
+            if len(block) >= 2:
+                judge_freestar(peer, rng, freestar_entries.mended(block))
+        for block in (whole + b"\x04", whole + whole, b"\x01" + whole):
+            judge_freestar(peer, rng, block)
+
+
+def check_freestar_lengths(peer, rng):
+    """Blocks of 5 to 304 bytes whose length byte is right or one off, and data that are longer than the type's by
+    what a length of one or two bytes does not show."""
+    for size, change in itertools.product(range(300), (-1, 0, 1)):
+        start = bytes([0x01, (5 + size + change) % 256, rng.choice([*SERVED])])
+        judge_freestar(peer, rng, freestar_entries.mended(start + bytes(size) + b"\x00\x04"))
+    for kind, wrap in itertools.product(SERVED, WRAPS):
+        data = ADDRESSES[: SERVED[kind]] + bytes(wrap)
+        peer.reread(Message(kind, data), rng.randbytes(FREESTAR_LONGEST))
+        judge_freestar(peer, rng, freestar_entries.packet(kind, data))
+
+
+def check_freestar_chance(peer, rng):
+    """Bytes by chance: whole blocks, data in a right frame, settings, and messages in a row."""
+    settings = FREESTAR_SETTINGS[0]
+    for _ in range(2000):
+        judge_freestar(peer, rng, rng.randbytes(rng.randrange(20)))
+        judge_freestar(peer, rng, b"\x01" + rng.randbytes(rng.randrange(20)) + b"\x04")
+        kind = rng.choice([*SERVED])
+        judge_freestar(peer, rng, freestar_entries.packet(kind, rng.randbytes(rng.randrange(12))))
+        block = freestar_entries.packet(kind, rng.randbytes(SERVED[kind]))
+        judge_freestar(peer, rng, block)
+        peer.step(freestar_entries.unpacked(rng.randbytes(13)), block, rng.randbytes(FREESTAR_LONGEST))
+        settings = peer.step(settings, block, rng.randbytes(FREESTAR_LONGEST)).after
+
+
+FREESTAR_CHECKS = (
+    check_freestar_buffers,
+    check_freestar_types,
+    check_freestar_pan_ids,
+    check_freestar_damage,
+    check_freestar_lengths,
+    check_freestar_chance,
+)
+
+
+def check_freestar_coverage(peer):
+    """Each entry gave each of its refusals, and accepted each of its types, often enough."""
+    check_seen("outcomes", {entry: {0, *OWN[entry]} for entry in freestar_entries.SIGNATURES}, peer.outcomes)
+    types_of = {"freestar_decode": SERVED, "freestar_encode": SERVED, "freestar_execute": HOST}
+    check_seen("accepted messages", types_of, peer.accepted)
+
+
+# ---- Counted calls ---------------------------------------------------------------------------
+
+
+def in_buffer(block, size):
+    """A buffer of the counted calls with a packet in its first bytes, as text; the rest is EE."""
+    return block.ljust(size, b"\xee").hex(" ").upper()
+
 
 # What bench/coyote_count.c prints before the buffer, and the packet that is then in the buffer, if any.
 PACKET_WORDS = (
     "refusal {} type {:02X} source {} targets {} space 0 request 00 code 0 memory 0000, 0 bytes, "
     "data at {}, {} bytes"
 )
-COUNTED_CALLS = {
+COYOTE_COUNTED = {
     "decode_data": (PACKET_WORDS.format(0, 0x00, "01:02", 1, 11, 1023), b""),
     "encode_data": (
         "refusal 0 length 1036",
@@ -575,12 +711,40 @@ COUNTED_CALLS = {
 }
 
 
-def counting_programs(folder):
-    """bench/coyote_count.c with the peer and with the library."""
-    source, built = "bench/coyote_count.c", sdk()
-    yield compiled(folder / "count_by_peer", "-DPEER", source, "bench/coyote_peer.c")
-    include, library = f"-I{built / 'include'}", built / "lib" / "libcoyote.a"
-    yield compiled(folder / "count_by_library", include, source, library)
+# The settings that bench/freestar_count.c begins with.
+COUNTED_SETTINGS = Settings(b"\xff\x3f", bytes(range(0x11, 0x19)), b"\x19\x1a", b"\x1a")
+# What it prints before the buffer, the packet that is then in the buffer, if any, and the settings afterwards.
+FREESTAR_COUNTED = {
+    "execute_set_pan_id": (
+        "refusal 0 length 5",
+        b"\x01\x05\x81\x87\x04",
+        COUNTED_SETTINGS._replace(pan_id=b"\x34\x12"),
+    ),
+    "execute_query_pan_id": ("refusal 0 length 7", b"\x01\x07\x82\xff\x3f\xc8\x04", COUNTED_SETTINGS),
+    "execute_set_address": (
+        "refusal 0 length 5",
+        b"\x01\x05\x83\x89\x04",
+        COUNTED_SETTINGS._replace(long_address=ADDRESSES[:8], short_address=ADDRESSES[8:]),
+    ),
+    "execute_query_address": (
+        "refusal 0 length 15",
+        b"\x01\x0f\x84" + bytes(range(0x11, 0x1B)) + b"\x6b\x04",
+        COUNTED_SETTINGS,
+    ),
+    "execute_reset": ("refusal 0 length 5", b"\x01\x05\x98\x9e\x04", COUNTED_SETTINGS),
+    "execute_damaged": ("refusal 26 length 0", b"", COUNTED_SETTINGS),
+    "execute_pan_id_over": ("refusal 28 length 0", b"", COUNTED_SETTINGS),
+    "decode_address": ("refusal 0 type 84 data 10 bytes", b"", COUNTED_SETTINGS),
+    "encode_address": ("refusal 0 length 15", b"\x01\x0f\x03" + ADDRESSES + b"\x4a\x04", COUNTED_SETTINGS),
+}
+
+
+def counting_programs(folder, library):
+    """bench/LIBRARY_count.c with the peer and with the library."""
+    source, built = f"bench/{library}_count.c", sdk()
+    yield compiled(folder / f"{library}_count_by_peer", "-DPEER", source, f"bench/{library}_peer.c")
+    include, archive = f"-I{built / 'include'}", built / "lib" / f"lib{library}.a"
+    yield compiled(folder / f"{library}_count_by_library", include, source, archive)
 
 
 def counted_line(program, operation):
@@ -591,20 +755,34 @@ def counted_line(program, operation):
     return done.stdout.partition("\n")[0]
 
 
-def check_coyote_counted(folder):
-    """Each call that bench/run counts is what its table says, with the peer and with the library."""
-    operations = {call.words for call in measure.PACKETS}
-    same_sets("counted calls", set(COUNTED_CALLS), "the test", operations, "bench/measure.py")
-    for program, operation in itertools.product(counting_programs(folder), COUNTED_CALLS):
-        words, block = COUNTED_CALLS[operation]
-        wanted = f"{words} buffer {block.ljust(1066, bytes([0xEE])).hex(' ').upper()}"
-        came = counted_line(program, operation)
+def compare_lines(folder, library, calls, lines):
+    """Each call that bench/run counts prints the line written down for it, with the peer and with the library."""
+    operations = {call.words for call in calls}
+    same_sets("counted calls", set(lines), "the test", operations, "bench/measure.py")
+    for program, operation in itertools.product(counting_programs(folder, library), lines):
+        wanted, came = lines[operation], counted_line(program, operation)
         if came != wanted:
             raise Problem(f"difference in {operation}, {program.name}\n  expected: {wanted}\n  came:     {came}")
-    return f"{len(operations)} counted calls of the Coyote library and of its C peer give the same"
+    name = library.capitalize()
+    return f"{len(operations)} counted calls of the {name} library and of its C peer give the same"
 
 
-COUNTED_CHECKS = (check_coyote_counted,)
+def check_coyote_counted(folder):
+    """The packets that bench/run counts."""
+    lines = {name: f"{words} buffer {in_buffer(block, 1066)}" for name, (words, block) in COYOTE_COUNTED.items()}
+    return compare_lines(folder, "coyote", measure.PACKETS, lines)
+
+
+def check_freestar_counted(folder):
+    """The messages that bench/run counts."""
+    lines = {}
+    for name, (words, block, settings) in FREESTAR_COUNTED.items():
+        after = freestar_entries.packed(settings).hex(" ").upper()
+        lines[name] = f"{words} buffer {in_buffer(block, FREESTAR_LONGEST)} settings {after}"
+    return compare_lines(folder, "freestar", measure.MESSAGES, lines)
+
+
+COUNTED_CHECKS = (check_coyote_counted, check_freestar_counted)
 
 
 # ---- The run ---------------------------------------------------------------------------------
@@ -635,12 +813,21 @@ def compare_modules(folder, checks, whole):
 
 
 def compare_coyote(folder, checks, whole):
-    peer = coyote_entries.Comparison(coyote_peer(folder))
+    peer = coyote_entries.Comparison(peer_of(folder, "coyote", coyote_entries.SIGNATURES))
     for check in checks:
         check(peer, random.Random(SEED))
     if whole:
         check_coyote_coverage(peer)
     print(f"{peer.calls} calls of the C peer of the Coyote packets and of the reference agree")
+
+
+def compare_freestar(folder, checks, whole):
+    peer = freestar_entries.Comparison(peer_of(folder, "freestar", freestar_entries.SIGNATURES))
+    for check in checks:
+        check(peer, random.Random(SEED))
+    if whole:
+        check_freestar_coverage(peer)
+    print(f"{peer.calls} calls of the C peer of the Freestar messages and of the reference agree")
 
 
 def compare_counted(folder, checks, whole):
@@ -652,6 +839,7 @@ PARTS = (
     (compare_logs, LOG_CHECKS),
     (compare_modules, MODULE_CHECKS),
     (compare_coyote, COYOTE_CHECKS),
+    (compare_freestar, FREESTAR_CHECKS),
     (compare_counted, COUNTED_CHECKS),
 )
 

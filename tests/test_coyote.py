@@ -36,13 +36,10 @@ from coyote_reference import (
     PACKET_LENGTH,
     PACKET_SUM,
 )
-from library import check_seen, print_outcomes, run_test
+from library import WRAPS, check_seen, filler, print_outcomes, run_test, with_byte
 from refusals import OWN
 
 SEED = 20240010
-
-# Added to a size, these leave its lowest one or two bytes as they were.
-WRAPS = (2**8, 2**16, 2**17)
 
 # The types that are served.
 NO_ACK_DATA_TYPES = range(0x10, 0x20)
@@ -57,11 +54,6 @@ SOURCE, TARGET = b"\x01\x02", b"\x01\x03"
 END = b"\x80"
 
 LONGEST = 1066  # bytes: sixteen targets and 1,023 of data
-
-
-def filler(size):
-    """What a buffer holds before a call."""
-    return (bytes(range(0x21, 0x71)) * (size // 80 + 1))[:size]
 
 
 # ---- The packets of 003 ----------------------------------------------------------------------
@@ -437,10 +429,6 @@ CHARGE_BLOCK = bytes.fromhex(EXPORTED[0][1])
 
 # A type of AckData, NoAckData and Ack, with the data lengths.
 DATA_LENGTHS = ((0x00, range(1, 1024)), (0x1F, range(1, 1024)), (0x20, (1,)))
-
-
-def with_byte(block, at, byte):
-    return block[:at] + bytes([byte]) + block[at + 1 :]
 
 
 def addressed(packet_type, source, targets, data):
