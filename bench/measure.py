@@ -30,6 +30,7 @@ COUNTED = 100  # calls under callgrind, which cost the same each
 Libraries = collections.namedtuple("Libraries", "library peer")
 CDI = Libraries("cdi", "peer")
 COYOTE = Libraries("coyote", "coyote_peer")
+FREESTAR = Libraries("freestar", "freestar_peer")
 
 # A call that is measured: its name, the function without the prefix, and what `count` takes for it.
 Call = collections.namedtuple("Call", "name function words")
@@ -48,6 +49,17 @@ PACKETS = (
     Call("Read of 1,023 data bytes with a wrong sum", "decode", "decode_damaged"),
 )
 PACKETS_LIMIT = 1.3  # the most instructions of the library for each of the peer's
+MESSAGES = (
+    Call("Set PAN ID", "execute", "execute_set_pan_id"),
+    Call("Query PAN ID", "execute", "execute_query_pan_id"),
+    Call("Set address", "execute", "execute_set_address"),
+    Call("Query address", "execute", "execute_query_address"),
+    Call("Reset", "execute", "execute_reset"),
+    Call("Set PAN ID with a wrong sum", "execute", "execute_damaged"),
+    Call("Set PAN ID of more than 14 bits", "execute", "execute_pan_id_over"),
+    Call("Read of an answer with addresses", "decode", "decode_address"),
+    Call("Write of a Set address", "encode", "encode_address"),
+)
 
 
 class Problem(Exception):
@@ -256,17 +268,33 @@ def commands(folder, plan):
     )
 
 
+def measured_calls(folder, plan, libraries, calls):
+    """The table of a library's calls beside its peer's, and the largest ratio of their instructions."""
+    taken = {call: measured(folder, plan, libraries, call) for call in calls}
+    rows = [(call.name, f"`{libraries.library}_{call.function}`", *measured_cells(one)) for call, one in taken.items()]
+    most = max(ratio(one.instructions) for one in taken.values())
+    return table(("Call", "Function", *MEASURED_HEAD), *rows), most
+
+
 def packets(folder, plan):
     """Single packets read and written, by the Coyote library and by its C peer."""
-    taken = {call: measured(folder, plan, COYOTE, call) for call in PACKETS}
-    rows = [(call.name, f"`coyote_{call.function}`", *measured_cells(one)) for call, one in taken.items()]
-    most = max(ratio(one.instructions) for one in taken.values())
+    text, most = measured_calls(folder, plan, COYOTE, PACKETS)
     return (
         "### Coyote packets, one call\n\n"
         "The data are those of an AckData packet of 1,036 bytes, a charge's packet has 16 bytes, and each has one target. Every "
         f"field of the result and every byte of the buffer is the same in both. {how_measured(plan)}\n\n"
-        + table(("Call", "Function", *MEASURED_HEAD), *rows)
+        + text
         + f"\nLimit: at most {PACKETS_LIMIT} times the C peer's instructions. The largest ratio here is {most:.2f}.\n"
+    )
+
+
+def messages(folder, plan):
+    """Single messages executed, read and written, by the Freestar library and by its C peer."""
+    text, most = measured_calls(folder, plan, FREESTAR, MESSAGES)
+    return (
+        "### Freestar messages, one call\n\n"
+        "A packet has 5 to 15 bytes. Every field of the result and every byte of the buffer and of the settings is the same in "
+        f"both. {how_measured(plan)}\n\n{text}\nThe largest ratio of instructions here is {most:.2f}.\n"
     )
 
 
@@ -306,7 +334,7 @@ def main():
     folder = pathlib.Path(sys.argv[1])
     plan = QUICK if "--quick" in sys.argv[2:] else FULL
     print(conditions(), flush=True)
-    for measure in (throughput, growth, commands, packets):
+    for measure in (throughput, growth, commands, packets, messages):
         print(measure(folder, plan), flush=True)
 
 
