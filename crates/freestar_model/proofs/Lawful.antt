@@ -58,7 +58,7 @@ module _ (s : Cell → List ℕ) where
   fits-kept x = frame-kept x (readFrame (x .block))
 
 -- cells that agree where they are read are answered alike
-joined-same : (s t : Cell → List ℕ) (cells : List Cell) → ((c : Cell) → isIn cells c ≡ true → t c ≡ s c) → joined t cells ≡ joined s cells
+pub joined-same : (s t : Cell → List ℕ) (cells : List Cell) → ((c : Cell) → isIn cells c ≡ true → t c ≡ s c) → joined t cells ≡ joined s cells
 joined-same s t [] agree = refl
 joined-same s t (c ∷ cells) agree =
     cc (

@@ -15,7 +15,7 @@ use Rattle.freestar_packet.specs.Layout.{requests, fitsIn, panIdFits, panIdHold
 use Rattle.freestar_packet.specs.Read.{dataIn, readFrame}
 use Rattle.freestar_packet.specs.Encode.{inRoom}
 use Rattle.freestar_settings.specs.declared.Settings.{Settings}
-use Rattle.freestar_settings.specs.Settings.{stored, validateMessage, validate, storedBy}
+use Rattle.freestar_settings.specs.Settings.{stored, validateMessage, validate, settingsBy}
 
 pub record Valid (s : Settings) (block : List ℕ) (m : Message) : Type 0 where
   pub framed : readFrame block ≡ accepted m
@@ -44,13 +44,13 @@ validated s block m e = of-frame s block m (readFrame block) refl e
 
 module _ (s : Settings) (bytes : List ℕ) (m : Message) where
   -- an answer that is refused leaves the settings, ...
-  pub left-alone : (r : Result (List ℕ)) → (outcomeOf r .refusal ≡ none → ⊥) → storedBy s bytes (accepted m) r ≡ s
+  pub left-alone : (r : Result (List ℕ)) → (outcomeOf r .refusal ≡ none → ⊥) → settingsBy s bytes (accepted m) r ≡ s
   left-alone (accepted packet) h = absurd (h refl)
   left-alone (refused n) h = refl
 
   -- ... and one that is not is written, and the message is stored
   pub set-anew : (room : ℕ) (packet : List ℕ) → outcomeOf (inRoom room packet) .refusal ≡ none
-      → storedBy s bytes (accepted m) (inRoom room packet) ≡ stored s (m .kind) bytes
+      → settingsBy s bytes (accepted m) (inRoom room packet) ≡ stored s (m .kind) bytes
   set-anew room packet h =
       by-cases (ltb room (length packet))
       (λ t. absurd (let z : _≡_ {A = ℕ} 13 0 = sym (rw t) ∙ h in omega arith))

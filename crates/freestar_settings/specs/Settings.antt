@@ -60,10 +60,10 @@ unfoldable pub resultOf : Settings → Delivery → Result (List ℕ)
 resultOf s x = andThen (validate s (x .block)) (λ m. inRoom (x .room) (answer s (m .kind)))
 
 -- a refusal changes nothing
-abbrev pub storedBy : Settings → (bytes : List ℕ) → Result Message → Result (List ℕ) → Settings
-storedBy s bytes (accepted m) (accepted packet) = stored s (m .kind) bytes
-storedBy s bytes (accepted m) (refused n) = s
-storedBy s bytes (refused n) r = s
+abbrev pub settingsBy : Settings → (bytes : List ℕ) → Result Message → Result (List ℕ) → Settings
+settingsBy s bytes (accepted m) (accepted packet) = stored s (m .kind) bytes
+settingsBy s bytes (accepted m) (refused n) = s
+settingsBy s bytes (refused n) r = s
 
 unfoldable pub step : Settings → Delivery → Settings
-step s x = storedBy s (dataIn (x .block)) (validate s (x .block)) (resultOf s x)
+step s x = settingsBy s (dataIn (x .block)) (validate s (x .block)) (resultOf s x)
