@@ -15,7 +15,7 @@ use Rattle.sequence.specs.Model.{storesIn, next, lastOr}
 use Rattle.sequence.specs.Machine.{run, given, NoneStores}
 use Rattle.sequence.proofs.Theorem.{sequence-claims, run-admissible}
 use Rattle.refusal.specs.Refusal.{Result, accepted, refused, andThen}
-use Rattle.refusal.proofs.Results.{never-both, then-refused}
+use Rattle.refusal.proofs.Results.{never-both, then-refused, RefusedAmong, of-refused}
 use Rattle.freestar_packet.specs.declared.Message.{Message}
 use Rattle.freestar_packet.specs.Layout.{setPanId, setAddress, setChannel, answerTo, requests, fitsIn, overhead, packetBytes, panIdFits, panIdHolds, isAccepted}
 use Rattle.freestar_packet.specs.Read.{dataIn, readFrame}
@@ -23,15 +23,16 @@ use Rattle.freestar_packet.specs.Encode.{inRoom}
 use Rattle.freestar_packet.proofs.Types.{pan-id-size, address-size, channel-size, rest-is-reset}
 use Rattle.freestar_packet.proofs.Frame.{accepted-frame}
 use Rattle.freestar_packet.proofs.Laws.{read-back}
+use Rattle.freestar_packet.proofs.Refusals.{then-among, stepRefusals, frame-among, room-among}
 use Rattle.freestar_model.specs.Cells.{Cell, panId, longAddress, shortAddress, channel, isIn, Setting, network, address, frequency, cellsOf, Action, set, query, reset, actionOf, readBy, storedBy, total, joined, cut}
 use Rattle.freestar_model.specs.Model.{Delivery, Decision, execute, decideFrame, decide, stores, given as gave, model}
 use Rattle.freestar_model.proofs.Lawful.{lawful, fits-kept, joined-same}
 use Rattle.freestar_settings.specs.declared.Settings.{Settings}
-use Rattle.freestar_settings.specs.Settings.{ArrayLengths, addressBytes, answerData, answer, stored, validate, resultOf, settingsBy, step}
+use Rattle.freestar_settings.specs.Settings.{ArrayLengths, addressBytes, answerData, answer, stored, validateMessage, validate, resultOf, settingsBy, step}
 use Rattle.freestar_settings.proofs.Accepted.{Valid, validated}
 use Rattle.freestar_settings.proofs.Answers.{acknowledged-accepted, pan-id-accepted, address-accepted, address-length, channel-accepted}
 use Rattle.freestar_sequence.specs.Machine.{cells, machine}
-use Rattle.freestar_sequence.specs.Laws.{typeOf, SequenceTheorem, AnswerIsRead, LastSetIsTold, SetIsTold, OnlySets, OtherTypes, ResetLeaves, RefusedLeaves, PanIdKept}
+use Rattle.freestar_sequence.specs.Laws.{typeOf, setType, queryType, SequenceTheorem, AnswerIsRead, LastSetIsTold, SetIsTold, OnlySets, OtherTypes, ResetLeaves, RefusedLeaves, PanIdKept, RefusalNumbers}
 use Rattle.freestar_sequence.proofs.Agreement.{by-type, data-agree}
 use Rattle.freestar_sequence.proofs.Follows.{decided, cells-are, follows}
 
@@ -150,6 +151,22 @@ answer-is-read s x buffer packet h e =
     rw (e, written-front buffer packet, a .packet-is)
     (read-back (answerTo (typeOf x)) (answerData s (typeOf x)) (subst (λ (k : ℕ). isAccepted (answerTo k) (answerData s k) ≡ true) (a .type-is) ok))
 
+-- the numbers of refusals
+message-among : (s : Settings) (bytes : List ℕ) (m : Message) → RefusedAmong stepRefusals (validateMessage s bytes m)
+message-among s bytes m =
+    choice (RefusedAmong stepRefusals) (fitsIn requests (m .kind) (length bytes))
+    (λ _. choice (RefusedAmong stepRefusals) (panIdHolds (m .kind) bytes && panIdFits (s .«pan_id»)) (λ _. tt) (λ _. refl))
+    (λ _. refl)
+
+pub refusal-numbers : RefusalNumbers
+unfolding resultOf validate
+refusal-numbers s x n e =
+    of-refused stepRefusals e
+    (then-among stepRefusals (validate s (x .block)) (λ m. inRoom (x .room) (answer s (m .kind)))
+    (then-among stepRefusals (readFrame (x .block)) (validateMessage s (dataIn (x .block))) (frame-among stepRefusals refl refl refl (x .block))
+    (message-among s (dataIn (x .block))))
+    (λ m. room-among stepRefusals refl (x .room) (answer s (m .kind))))
+
 -- ---- sequences
 -- the answer after a sequence shows the cells as they are then
 shown : (s : Settings) (x : Delivery) (packet : List ℕ) → resultOf s x ≡ accepted packet
@@ -210,10 +227,33 @@ stores-as s x c = by-frame (readFrame (x .block)) refl
         (λ _ in-c. absurd (false≢true in-c)))
         (λ _ in-c. absurd (false≢true in-c))
 
+-- a message that sets a setting has that setting's type
+abbrev SetTypes : ℕ → Action → Type 0
+SetTypes type (set k) = type ≡ setType k
+SetTypes type (query k) = Unit {0}
+SetTypes type reset = Unit {0}
+
+set-types : (type : ℕ) → SetTypes type (actionOf type)
+set-types =
+    by-type (λ type. SetTypes type (actionOf type)) refl tt refl tt refl tt
+    (λ type o. rw (o .not-01, o .not-02, o .not-03, o .not-04, o .not-05, o .not-06) tt)
+
 pub other-types : OtherTypes
 other-types s xs k none c of-k before x rest e =
     let held = cells (run model machine s before) in
-    by-cases (storesIn model held x c) (λ t. absurd (none before x rest e (sets-it (actionOf (typeOf x)) k c (stores-as held x c t) of-k))) (λ f. f)
+    by-cases (storesIn model held x c)
+    (λ t. absurd (none before x rest e (subst (SetTypes (typeOf x)) (sets-it (actionOf (typeOf x)) k c (stores-as held x c t) of-k) (set-types (typeOf x)))))
+    (λ f. f)
+
+set-action : (k : Setting) → actionOf (setType k) ≡ set k
+set-action network = refl
+set-action address = refl
+set-action frequency = refl
+
+query-action : (k : Setting) → actionOf (queryType k) ≡ query k
+query-action network = refl
+query-action address = refl
+query-action frequency = refl
 
 -- the data of a set, cut into its cells and put together again
 together : (k : Setting) (bytes : List ℕ) → length bytes ≡ total (cellsOf k) → joined (cut (cellsOf k) bytes) (cellsOf k) ≡ bytes
@@ -236,7 +276,9 @@ set-size n =
     (λ type o e. rw (o .not-01, o .not-02, o .not-03, o .not-04, o .not-05, o .not-06) tt)
 
 pub set-is-told : SetIsTold
-set-is-told s before between x q k answer packet h e is-set none e′ is-query =
+set-is-told s before between x q k answer packet h e of-set none e′ of-query =
+    let is-set = ap actionOf of-set ∙ set-action k in
+    let is-query = ap actionOf of-query ∙ query-action k in
     let then = run model machine s before in
     let now = run model machine s (before ++ x ∷ between) in
     let bytes = dataIn (x .block) in
@@ -255,4 +297,5 @@ set-is-told s before between x q k answer packet h e is-set none e′ is-query =
     in
     shown now q packet e′ ∙
     ap (λ (b : Action). packetBytes (answerTo (typeOf q)) (joined (cells now) (readBy b))) is-query ∙
-    ap (packetBytes (answerTo (typeOf q))) (joined-same (cut (cellsOf k) bytes) (cells now) (cellsOf k) held ∙ together k bytes size)
+    ap (packetBytes (answerTo (typeOf q))) (joined-same (cut (cellsOf k) bytes) (cells now) (cellsOf k) held ∙ together k bytes size) ∙
+    ap (λ (type : ℕ). packetBytes (answerTo type) bytes) of-query

@@ -2,14 +2,16 @@
 use Prim.Native.Nat.{ℕ}
 use mathlib.Core.Path.{_≡_}
 use mathlib.Core.Bool.{true, false}
-use mathlib.Core.List.{List, _∷_, _++_}
+use mathlib.Core.List.{List, [], _∷_, _++_}
+use lib.Dec.{eqb}
 use lib.ListN.{length, getD, take}
+use Rattle.logic.specs.Lists.{any}
 use Rattle.sequence.specs.Model.{lastOr}
 use Rattle.sequence.specs.Machine.{run, given, NoneStores, Claims}
-use Rattle.refusal.specs.Refusal.{accepted, refused, outcomeOf, bufferAfter}
-use Rattle.freestar_packet.specs.Layout.{setPanId, setAddress, setChannel, reset, answerTo, packetBytes, panIdFits}
+use Rattle.refusal.specs.Refusal.{accepted, refused, outcomeOf, bufferAfter, frameBufferShort, packetEnds, packetLength, packetSum, packetContent, panIdOver}
+use Rattle.freestar_packet.specs.Layout.{setPanId, queryPanId, setAddress, queryAddress, setChannel, queryChannel, reset, answerTo, packetBytes, panIdFits}
 use Rattle.freestar_packet.specs.Read.{dataIn, content, readContent}
-use Rattle.freestar_model.specs.Cells.{Cell, isIn, Setting, cellsOf, set, query, actionOf, readBy, joined}
+use Rattle.freestar_model.specs.Cells.{Cell, isIn, Setting, network, address, frequency, cellsOf, actionOf, readBy, joined}
 use Rattle.freestar_model.specs.Model.{Delivery, model}
 use Rattle.freestar_settings.specs.declared.Settings.{Settings}
 use Rattle.freestar_settings.specs.Settings.{ArrayLengths, answerData, step, resultOf}
@@ -18,6 +20,17 @@ use Rattle.freestar_sequence.specs.Machine.{cells, machine}
 -- the type of a step's message
 abbrev pub typeOf : Delivery → ℕ
 typeOf x = getD (x .block) 2 0
+
+-- the message that sets a setting, and the one that asks for it
+abbrev pub setType : Setting → ℕ
+setType network = setPanId
+setType address = setAddress
+setType frequency = setChannel
+
+abbrev pub queryType : Setting → ℕ
+queryType network = queryPanId
+queryType address = queryAddress
+queryType frequency = queryChannel
 
 -- For every list of blocks, each with room for a response of its own, from all settings: all that `Claims` says of the machine beside the
 -- reference model. So every cell and every answer are the model's, each cell holds what the last accepted set gave it, and neighbours that
@@ -48,11 +61,11 @@ SetIsTold =
     (s : Settings) (before between : List Delivery) (x q : Delivery) (k : Setting) (answer packet : List ℕ)
     → ArrayLengths s
     → resultOf (run model machine s before) x ≡ accepted answer
-    → actionOf (typeOf x) ≡ set k
+    → typeOf x ≡ setType k
     → ((c : Cell) → isIn (cellsOf k) c ≡ true → NoneStores model machine (step (run model machine s before) x) between c)
     → resultOf (run model machine s (before ++ x ∷ between)) q ≡ accepted packet
-    → actionOf (typeOf q) ≡ query k
-    → packet ≡ packetBytes (answerTo (typeOf q)) (dataIn (x .block))
+    → typeOf q ≡ queryType k
+    → packet ≡ packetBytes (answerTo (queryType k)) (dataIn (x .block))
 
 -- only message 01 changes the PAN ID, 03 the addresses, 05 the channel
 abbrev pub OnlySets : Type 0
@@ -66,7 +79,7 @@ OnlySets =
 abbrev pub OtherTypes : Type 0
 OtherTypes =
     (s : Settings) (xs : List Delivery) (k : Setting)
-    → ((before : List Delivery) (x : Delivery) (rest : List Delivery) → xs ≡ before ++ x ∷ rest → actionOf (typeOf x) ≡ set k → ⊥)
+    → ((before : List Delivery) (x : Delivery) (rest : List Delivery) → xs ≡ before ++ x ∷ rest → typeOf x ≡ setType k → ⊥)
     → (c : Cell)
     → isIn (cellsOf k) c ≡ true
     → NoneStores model machine s xs c
@@ -86,3 +99,10 @@ PanIdKept =
     → ArrayLengths s
     → (panIdFits (step s x .«pan_id») ≡ panIdFits (s .«pan_id»))
     × ((packet : List ℕ) → resultOf s x ≡ accepted packet → panIdFits (s .«pan_id») ≡ true)
+
+-- a message is refused with 24, 25, 26, 27, 28 or 13, and with no other number
+abbrev pub RefusalNumbers : Type 0
+RefusalNumbers =
+    (s : Settings) (x : Delivery) (n : ℕ)
+    → resultOf s x ≡ refused n
+    → any (eqb n) (packetEnds ∷ packetLength ∷ packetSum ∷ packetContent ∷ panIdOver ∷ frameBufferShort ∷ []) ≡ true
