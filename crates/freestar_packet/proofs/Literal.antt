@@ -55,5 +55,5 @@ pan-id-most = refl
 
 -- of the writer: the PAN ID and the room
 pub pan-id-first : encode 0x01 (0x00 ∷ 0x40 ∷ []) 6 ≡ refused 28
-unfolding fitsIn encode
+unfolding fitsIn packetBytes encode
 pan-id-first = refl
