@@ -1,16 +1,16 @@
 -- The sentences, each drawn from its law; only that a literal block is read, or what a literal message makes of literal settings, is computed.
 -- Assumes nothing.
-use Prim.Native.Nat.{ℕ, _+_, _*_, _<_}
+use Prim.Native.Nat.{ℕ, suc, _+_, _*_, _<_}
 use mathlib.Core.Path.{_≡_, refl, sym, ap, _∙_}
 use mathlib.Core.Bool.{Bool, true, false, true≢false, false≢true}
-use mathlib.Core.List.{List, [], _∷_, _++_}
+use mathlib.Core.List.{List, [], _∷_, _++_, map}
 use native.Mathlib.Omega.{arith}
 use borrow.Author.Tests.{lt-ltb, eq-eqb}
 use lib.Dec.{eqb}
 use lib.ListN.{length, getD, take}
 use Rattle.logic.specs.Lists.{any}
 use Rattle.logic.proofs.Choice.{neither}
-use Rattle.refusal.specs.Refusal.{accepted, refused, bufferAfter}
+use Rattle.refusal.specs.Refusal.{Result, accepted, refused, refusalOf, bufferAfter}
 use Rattle.checksum.specs.Checksum.{byteSum}
 use Rattle.sequence.specs.Model.{Apart, storesIn, touches, next, after as modelAfter, results as modelResults, lastOr, swapAt}
 use Rattle.sequence.specs.Machine.{run, results, given, Claims}
@@ -89,6 +89,11 @@ channel-told b packet e =
     (answer-is-read (settings (0x34 ∷ 0x12 ∷ []) (take 8 addresses) (0x09 ∷ 0x0A ∷ []) b) (delivery askChannel 6) (unwritten 6) packet
     (record { pan-id = refl; long-address = refl; short-address = refl }) e)
 
+-- a number that is not 0 is a refusal's
+has-number : {A : Type 0} (r : Result A) (n : ℕ) → refusalOf r ≡ suc n → r ≡ refused (suc n)
+has-number (accepted x) n e = absurd (omega arith)
+has-number (refused k) n e = ap refused e
+
 -- sequences
 claims : Claims model machine three evening
 claims = sequence-theorem three three-lengths evening
@@ -139,11 +144,9 @@ unfolding modelAfter byteSum fitsIn packetBytes readFrame decide
 cells-after =
     (claims .agrees-with-model .0 panId, claims .agrees-with-model .0 longAddress, claims .agrees-with-model .0 shortAddress, claims .agrees-with-model .0 channel)
 
-results-after :
-    results model machine three evening
-    ≡ accepted (0x01 ∷ 0x05 ∷ 0x85 ∷ 0x8B ∷ 0x04 ∷ []) ∷ refused 26 ∷ refused 13 ∷ accepted (0x01 ∷ 0x05 ∷ 0x81 ∷ 0x87 ∷ 0x04 ∷ []) ∷ []
+numbers-after : map (λ (r : Result (List ℕ)). refusalOf r) (results model machine three evening) ≡ 0 ∷ 26 ∷ 13 ∷ 0 ∷ []
 unfolding modelResults byteSum fitsIn packetBytes readFrame decide
-results-after = claims .agrees-with-model .1
+numbers-after = ap (map (λ (r : Result (List ℕ)). refusalOf r)) (claims .agrees-with-model .1)
 
 -- a test that passes at no element of a list passes at none that the list is split at
 at-none : {A : Type 0} (ok : A → Bool) (xs : List A) → any ok xs ≡ false → (before : List A) (x : A) (rest : List A) → xs ≡ before ++ x ∷ rest → ok x ≡ false
@@ -223,9 +226,9 @@ sentences-hold = record {
     read-is-written addressBlock (record { kind = 0x84; «data_length» = 10 }) 15 address-read (omega arith),
     read-is-written addressBlock (record { kind = 0x84; «data_length» = 10 }) 20 address-read (omega arith),
   );
-  reader-numbers = λ block e. false≢true (read-refusal block 13 e);
-  writer-numbers = λ type bytes room e. false≢true (write-refusal type bytes room 24 e);
-  message-numbers = λ s x e. false≢true (refusal-numbers s x 2 e);
+  reader-numbers = λ block e. false≢true (read-refusal block 13 (has-number (readPacket block) 12 e));
+  writer-numbers = λ type bytes room e. false≢true (write-refusal type bytes room 24 (has-number (encode type bytes room) 23 e));
+  message-numbers = λ s x e. false≢true (refusal-numbers s x 2 (has-number (resultOf s x) 1 e));
   address-told = address-told;
   channel-told = channel-told;
   last-channel = last-channel;
@@ -243,11 +246,11 @@ sentences-hold = record {
       let left = only-sets s x .1 (other (getD (x .block) 2 0) t (λ e. omega arith)) in
       (only-sets s x .0 (other (getD (x .block) 2 0) t (λ e. omega arith)), left .0, left .1);
   reset-left = λ s room. reset-leaves s (delivery resetRadio room) refl;
-  refused-left = λ s x e. refused-leaves s x 13 e;
+  refused-left = λ s x e. refused-leaves s x 13 (has-number (resultOf s x) 12 e);
   over-refuses = λ x packet e. false≢true (pan-id-kept over x over-lengths .1 packet e);
   over-stays = λ x. pan-id-kept over x over-lengths .0;
   cells-after = cells-after;
-  results-after = results-after;
+  numbers-after = numbers-after;
   long-address-kept = long-address-kept;
   damaged-left = damaged-left;
   exchanged = λ rest. (swapped rest .0, first-two rest);

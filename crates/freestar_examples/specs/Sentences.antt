@@ -3,9 +3,9 @@
 use Prim.Native.Nat.{ℕ, _+_, _*_, _<_, _≤_}
 use mathlib.Core.Path.{_≡_}
 use mathlib.Core.Bool.{true, false}
-use mathlib.Core.List.{List, [], _∷_, _++_}
+use mathlib.Core.List.{List, [], _∷_, _++_, map}
 use lib.ListN.{length, getD, take}
-use Rattle.refusal.specs.Refusal.{Result, accepted, refused, bufferAfter}
+use Rattle.refusal.specs.Refusal.{Result, accepted, refusalOf, bufferAfter}
 use Rattle.sequence.specs.Model.{Apart}
 use Rattle.sequence.specs.Machine.{run, results}
 use Rattle.freestar_packet.specs.declared.Decoded.{Decoded}
@@ -99,9 +99,9 @@ pub record Sentences : Type 0 where
   pub in-buffer : readContent (take 15 (bufferAfter (encode 0x84 addresses 20) (unwritten 20))) ≡ accepted (content 0x84 addresses)
   pub again : (encode 0x84 addresses 15 ≡ accepted addressBlock) × (encode 0x84 addresses 20 ≡ accepted addressBlock)
   -- the reader never refuses with 13, the writer never with 24, and no message with 2
-  pub reader-numbers : (block : List ℕ) → readPacket block ≡ refused 13 → ⊥
-  pub writer-numbers : (type : ℕ) (bytes : List ℕ) (room : ℕ) → encode type bytes room ≡ refused 24 → ⊥
-  pub message-numbers : (s : Settings) (x : Delivery) → resultOf s x ≡ refused 2 → ⊥
+  pub reader-numbers : (block : List ℕ) → refusalOf (readPacket block) ≡ 13 → ⊥
+  pub writer-numbers : (type : ℕ) (bytes : List ℕ) (room : ℕ) → refusalOf (encode type bytes room) ≡ 24 → ⊥
+  pub message-numbers : (s : Settings) (x : Delivery) → refusalOf (resultOf s x) ≡ 2 → ⊥
   -- the answer to a query, at the front of a buffer, is read as the answer with what is set
   pub address-told : readContent (take 15 (bufferAfter (resultOf three (delivery askAddresses 20)) (unwritten 20))) ≡ accepted (content 0x84 addresses)
   pub channel-told : (b : ℕ) (packet : List ℕ) → resultOf (settings (0x34 ∷ 0x12 ∷ []) (take 8 addresses) (0x09 ∷ 0x0A ∷ []) b) (delivery askChannel 6) ≡ accepted packet
@@ -122,19 +122,17 @@ pub record Sentences : Type 0 where
       → (step s x .«pan_id» ≡ s .«pan_id») × (step s x .«long_address» ≡ s .«long_address») × (step s x .«short_address» ≡ s .«short_address»)
   -- a reset leaves all settings, and so does every message that is refused
   pub reset-left : (s : Settings) (room : ℕ) → step s (delivery resetRadio room) ≡ s
-  pub refused-left : (s : Settings) (x : Delivery) → resultOf s x ≡ refused 13 → step s x ≡ s
+  pub refused-left : (s : Settings) (x : Delivery) → refusalOf (resultOf s x) ≡ 13 → step s x ≡ s
   -- settings with a PAN ID that is over accept no message, and none mends them
   pub over-refuses : (x : Delivery) (packet : List ℕ) → resultOf over x ≡ accepted packet → ⊥
   pub over-stays : (x : Delivery) → panIdFits (step over x .«pan_id») ≡ false
-  -- the clauses of the theorem on sequences: after the evening each cell holds these bytes,
+  -- the clauses of the theorem on sequences: after the evening each cell holds these bytes, and these were the numbers,
   pub cells-after :
       (cells (after evening) panId ≡ 0x11 ∷ 0x22 ∷ [])
       × (cells (after evening) longAddress ≡ take 8 addresses)
       × (cells (after evening) shortAddress ≡ 0x09 ∷ 0x0A ∷ [])
       × (cells (after evening) channel ≡ 0x0C ∷ [])
-  pub results-after :
-      results model machine three evening
-      ≡ accepted (0x01 ∷ 0x05 ∷ 0x85 ∷ 0x8B ∷ 0x04 ∷ []) ∷ refused 26 ∷ refused 13 ∷ accepted (0x01 ∷ 0x05 ∷ 0x81 ∷ 0x87 ∷ 0x04 ∷ []) ∷ []
+  pub numbers-after : map (λ (r : Result (List ℕ)). refusalOf r) (results model machine three evening) ≡ 0 ∷ 26 ∷ 13 ∷ 0 ∷ []
   -- a cell without a message of its type keeps its bytes, and a message that is refused leaves the settings,
   pub long-address-kept : cells (after evening) longAddress ≡ cells three longAddress
   pub damaged-left : step (after (delivery setChannel 5 ∷ [])) damaged ≡ after (delivery setChannel 5 ∷ [])

@@ -118,16 +118,16 @@ sumStart = 0
 unfoldable pub packetBytes : (type : ℕ) (bytes : List ℕ) → List ℕ
 packetBytes type bytes = summed sumStart end (front type bytes)
 
--- 004's "LSB to MSB": the number in two bytes, the low one first
-abbrev pub panIdIn : List ℕ → ℕ
-panIdIn bytes = getD bytes 0 0 + 256 * getD bytes 1 0
-
 -- "PAN ID (14 bits)"
 abbrev pub panIdLimit : ℕ
 panIdLimit = 16384
 
+-- 004's "LSB to MSB": the low byte is first
+abbrev pub isPanId : (low high : ℕ) → Bool
+isPanId low high = ltb (low + 256 * high) panIdLimit
+
 abbrev pub panIdFits : List ℕ → Bool
-panIdFits bytes = ltb (panIdIn bytes) panIdLimit
+panIdFits bytes = isPanId (getD bytes 0 0) (getD bytes 1 0)
 
 -- the types whose data are a PAN ID
 abbrev pub hasPanId : (type : ℕ) → Bool

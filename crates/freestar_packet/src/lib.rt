@@ -2,8 +2,7 @@
 // are places in the block that was read. The laws of this crate say that a packet of the layout is read as what it holds, and that a
 // block that is read is a packet of the layout.
 ghost use mathlib.Core.Path.{_≡_};
-ghost use mathlib.Core.List.{[], _∷_};
-ghost use Rattle.freestar_packet.specs.Layout.{requests, answers, types, fitsIn, panIdFits, hasPanId, panIdHolds};
+ghost use Rattle.freestar_packet.specs.Layout.{requests, answers, types, fitsIn, isPanId, hasPanId, panIdHolds};
 
 // The first and the last byte of every packet.
 pub const START: u8 = 0x01;
@@ -112,7 +111,7 @@ pub fn fits(kind: u8, size: usize) -> bool
 
 // Whether a PAN ID, by its low and its high byte, has at most 14 bits.
 pub fn fits_pan_id(low: u8, high: u8) -> bool
-    ensures { λ r. ⌜ r ≡ panIdFits (low ∷ high ∷ []) ⌝ }
+    ensures { λ r. ⌜ r ≡ isPanId low high ⌝ }
 {
     let pan_id = low as u16 + 256 * high as u16;
     pan_id < PAN_ID_LIMIT

@@ -40,7 +40,7 @@ pub struct Settings {
 
 // What came of a message: the settings after it, and the refusal or the length of the answer.
 #[repr(C)]
-pub struct Execution {
+pub struct Executed {
     pub settings: Settings,
     pub outcome: Outcome,
 }
@@ -149,7 +149,7 @@ fn store(mut settings: Settings, kind: u8, content: &[u8]) -> Settings
 }
 
 // Executes one message on settings: decides on it, answers, and stores. A refusal changes no byte of `response` and nothing in the settings.
-pub fn execute(settings: Settings, block: &[u8], response: &mut [u8]) -> Execution
+pub fn execute(settings: Settings, block: &[u8], response: &mut [u8]) -> Executed
     ensures { λ r. ⌜ (r .settings ≡ step settings (delivery (now (block .entry)) (length (now (response .entry)))))
         × (r .outcome ≡ outcomeOf (resultOf settings (delivery (now (block .entry)) (length (now (response .entry))))))
         × (now (response .exit) ≡ bufferAfter (resultOf settings (delivery (now (block .entry)) (length (now (response .entry))))) (now (response .entry))) ⌝ }
@@ -158,17 +158,17 @@ pub fn execute(settings: Settings, block: &[u8], response: &mut [u8]) -> Executi
     match accepted {
         Decoded::Refused(number) => {
             let outcome = refusal::refused(number);
-            Execution { settings, outcome }
+            Executed { settings, outcome }
         }
         Decoded::Accepted(message) => {
             let size = message.data_length as usize;
             let outcome = respond(settings, message.kind, size, response);
             if outcome.refusal != NONE {
-                return Execution { settings, outcome };
+                return Executed { settings, outcome };
             }
             let end = DATA_START + size;
             let after = store(settings, message.kind, &block[DATA_START..end]);
-            Execution {
+            Executed {
                 settings: after,
                 outcome,
             }

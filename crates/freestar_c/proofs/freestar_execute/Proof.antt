@@ -28,7 +28,7 @@ use denote.Triple.Clauses.{Clauses, Lasts}
 use denote.Triple.Statement.{Triple}
 use denote.Triple.Walked.{Stays, Walks, ends-at, walked}
 use Rattle.in_place.proofs.InPlace.{the-row, mach, updated, updated-goes, contractOf, entry-meets, says, enters-mut, copies, hands-on, operand, asks, outcome, stores, aside, leaves, gives}
-use Rattle.freestar_settings.specs.declared.Execution.{Execution}
+use Rattle.freestar_settings.specs.declared.Executed.{Executed}
 use Rattle.freestar_settings.proofs.execute as core
 use Rattle.freestar_settings.proofs.execute.Symbol as core-def
 use Rattle.freestar_settings.proofs.execute.Met as core-thm
@@ -52,7 +52,7 @@ module _ {M : Type 1} (𝓤 : URA M) (H : Heap 𝓤) (A : Atoms 𝓤) (W : Given
   entry-says = entry.clauses 𝓤 H A at-mem run
 
   -- what the core says of its result, and so of each part of it, is what the entry says
-  told : (κs : Lfts 3) (a : Args entry.signature κs) (r : Execution) (ws : Lasts core.ended (κs .1) (a .0 .now, a .1))
+  told : (κs : Lfts 3) (a : Args entry.signature κs) (r : Executed) (ws : Lasts core.ended (κs .1) (a .0 .now, a .1))
       → ent 𝓤 (says 𝓤 core.ended core-says (κs .1) (a .0 .now, a .1) tt r ws) (says 𝓤 entry.ended entry-says κs a tt (r .outcome) (r .settings, ws .1))
   told κs a r ws = fact-mono 𝓤 _ _ (λ e. e)
 

@@ -1,11 +1,12 @@
 -- `pan_id_holds` meets its contract: only two types hold a PAN ID, and a byte that is missing would be 0 in it.
 -- Assumes nothing.
+use Prim.Native.Nat.{_+_, _*_}
 use mathlib.Core.Path.{_≡_, sym, _∙_}
 use native.Mathlib.Omega.{arith}
 use borrow.Author.Needs.{needs}
 use borrow.Author.Tests.{lt-ltb, not-true, not-false}
 use lib.ListN.{getD, List·getD-eq-default}
-use Rattle.freestar_packet.specs.Layout.{panIdIn, panIdLimit}
+use Rattle.freestar_packet.specs.Layout.{panIdLimit}
 use Rattle.freestar_packet.proofs.pan_id_holds.Statement.{statement}
 use Rattle.freestar_packet.proofs.pan_id_holds.Tie as tie
 
@@ -22,7 +23,7 @@ returns-2 c =
     let high : getD bytes 1 0 ≡ 0 = List·getD-eq-default bytes 0 {n = 1} (search needs) in
     simp (
       sym (h .has-pan-id .ensures) ∙ not-false _ (c .before .if1 .left),
-      lt-ltb (panIdIn bytes) panIdLimit (omega (arith, high, h .before .shared-slice-known .given 0 .fits)),
+      lt-ltb (getD bytes 0 0 + 256 * getD bytes 1 0) panIdLimit (omega (arith, high, h .before .shared-slice-known .given 0 .fits)),
     )
 
 shared-slice-read-fits-pan-id : tie.Need-shared-slice-read-fits-pan-id
