@@ -2,7 +2,7 @@
 // are places in the block that was read. The laws of this crate say that a packet of the layout is read as what it holds, and that a
 // block that is read is a packet of the layout.
 ghost use mathlib.Core.Path.{_≡_};
-ghost use Rattle.freestar_packet.specs.Layout.{requests, answers, types, fitsIn, isPanId, hasPanId, panIdHolds};
+ghost use Rattle.freestar_packet.specs.Layout.{requests, types, fitsIn, isPanId, hasPanId, panIdHolds};
 
 // The first and the last byte of every packet.
 pub const START: u8 = 0x01;
@@ -38,6 +38,8 @@ pub const SET_CHANNEL_ACKNOWLEDGED: u8 = 0x85;
 pub const RESPOND_CHANNEL: u8 = 0x86;
 
 pub const RESET_ACKNOWLEDGED: u8 = 0x98;
+// The type of an answer is its message's plus this; the host's types are under it.
+pub const ANSWER: u8 = 0x80;
 
 // How many bytes a PAN ID, both addresses and a channel have as data.
 pub const PAN_ID_LENGTH: usize = 2;
@@ -70,9 +72,9 @@ pub enum Decoded {
     Refused(u8),
 }
 
-// Whether the host sends messages of this type with so many bytes of data.
-pub fn fits_request(kind: u8, size: usize) -> bool
-    ensures { λ r. ⌜ r ≡ fitsIn requests kind size ⌝ }
+// Whether messages of this type are served and have so many bytes of data.
+pub fn fits(kind: u8, size: usize) -> bool
+    ensures { λ r. ⌜ r ≡ fitsIn types kind size ⌝ }
 {
     match kind {
         SET_PAN_ID => size == PAN_ID_LENGTH,
@@ -82,15 +84,6 @@ pub fn fits_request(kind: u8, size: usize) -> bool
         SET_CHANNEL => size == CHANNEL_LENGTH,
         QUERY_CHANNEL => size == 0,
         RESET => size == 0,
-        _ => false,
-    }
-}
-
-// Whether the radio does.
-pub fn fits_answer(kind: u8, size: usize) -> bool
-    ensures { λ r. ⌜ r ≡ fitsIn answers kind size ⌝ }
-{
-    match kind {
         SET_PAN_ID_ACKNOWLEDGED => size == 0,
         RESPOND_PAN_ID => size == PAN_ID_LENGTH,
         SET_ADDRESS_ACKNOWLEDGED => size == 0,
@@ -102,11 +95,11 @@ pub fn fits_answer(kind: u8, size: usize) -> bool
     }
 }
 
-// Whether one of them does.
-pub fn fits(kind: u8, size: usize) -> bool
-    ensures { λ r. ⌜ r ≡ fitsIn types kind size ⌝ }
+// Whether messages of this type are those that the host sends, and have so many bytes of data.
+pub fn fits_request(kind: u8, size: usize) -> bool
+    ensures { λ r. ⌜ r ≡ fitsIn requests kind size ⌝ }
 {
-    fits_request(kind, size) | fits_answer(kind, size)
+    (kind < ANSWER) & fits(kind, size)
 }
 
 // Whether a PAN ID, by its low and its high byte, has at most 14 bits.
