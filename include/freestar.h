@@ -64,8 +64,8 @@ enum {
  *     place 3 + n  the sum of all bytes before it, modulo 256
  *     place 4 + n  0x04, the end byte
  *
- * The host sends seven types. The radio answers each with the type that is 0x80 higher. The number
- * of data bytes depends on the type alone:
+ * Of the types that are served the host sends seven, and the radio answers each with the type that
+ * is 0x80 higher. The number of data bytes depends on the type alone:
  *
  *     The host sends                   Data   The radio answers                            Data
  *     0x01 Set PAN ID                     2   0x81 Set PAN ID acknowledged                    0
@@ -117,8 +117,9 @@ enum {
  * padding: memcpy copies them, memcmp compares two.
  *
  * A PAN ID of FREESTAR_PAN_ID_LIMIT or more is not accepted here either. While the settings have one,
- * freestar_execute refuses with PAN_ID_OVER every message that it would otherwise accept, also a Set
- * PAN ID and a Reset request. Only the caller can put it right; no message sets such a PAN ID.
+ * freestar_execute accepts no message: one that is otherwise in order is refused with PAN_ID_OVER,
+ * also a Set PAN ID and a Reset request. Only the caller can put it right; no message sets such a
+ * PAN ID.
  */
 typedef struct {
     uint8_t pan_id[2];         /* low byte first; pan_id[1] is under 0x40 */
@@ -184,7 +185,9 @@ freestar_outcome freestar_encode(uint8_t type, const uint8_t *data, size_t data_
  *     Query RF channel           the answer's data are channel                      6 bytes
  *     Reset request              the settings stay as they are (house)              5 bytes
  *
- * All else in the settings stays. A buffer of the answer's own length, in the last column, is enough.
+ * All else in the settings stays; a refusal leaves all of it. All 13 bytes are written back in every
+ * case, so no other thread may use the settings during the call. A buffer of the answer's own length,
+ * in the last column, is enough.
  * Refusals, in this order: PACKET_ENDS; PACKET_LENGTH; PACKET_SUM; PACKET_CONTENT for a type that is
  * not served or that the radio sends, or data of another length than the type's; PAN_ID_OVER for a
  * PAN ID of 16,384 or more in a Set PAN ID or, whatever the message, in the settings;

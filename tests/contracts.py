@@ -320,7 +320,7 @@ can no longer be proved:
 - `returns` is the fact that the result and the buffers are what the contract says; a number after it says at which return.
 - `loop-again` is the fact that a loop keeps its invariant.
 - A name that ends in -requires is what the called function asks of its arguments.
-- `told`, in `cdi_c`, is the fact that what the function by value says of its result is what the entry says of the state in place.
+- `told`, in `cdi_c` and `freestar_c`, is the fact that what the function by value says of its result is what the entry says of the struct in place.
 - `runs-hold`, in `cdi_model`, computes whole runs of the model on literal bytes; `table-unpadded` computes that the table names no cell too many.
 """
 

@@ -186,10 +186,10 @@ fn read_summed(block: &[u8]) -> Decoded
     requires { ⌜ overhead ≤ length (now block) ⌝ }
     ensures { λ r. ⌜ decodedResult r ≡ readSummed (now (block .entry)) ⌝ }
 {
-    let sum_at = block.len() - 2;
-    if checksum::sum_from(SUM_START, &block[0..sum_at]) != block[sum_at] {
+    if !checksum::sum_holds(SUM_START, block) {
         return Decoded::Refused(PACKET_SUM);
     }
+    let sum_at = block.len() - 2;
     read_payload(block[1], &block[PAYLOAD_START..sum_at])
 }
 
@@ -197,13 +197,7 @@ fn read_summed(block: &[u8]) -> Decoded
 pub fn decode(block: &[u8]) -> Decoded
     ensures { λ r. ⌜ decodedResult r ≡ readPacket (now (block .entry)) ⌝ }
 {
-    if block.len() == 0 {
-        return Decoded::Refused(PACKET_ENDS);
-    }
-    if block[0] != START {
-        return Decoded::Refused(PACKET_ENDS);
-    }
-    if block[block.len() - 1] != END {
+    if !checksum::ends_hold(START, END, block) {
         return Decoded::Refused(PACKET_ENDS);
     }
     if block.len() < OVERHEAD {

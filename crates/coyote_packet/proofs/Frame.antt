@@ -13,11 +13,11 @@ use Rattle.logic.specs.Lists.{part}
 use Rattle.logic.proofs.Bytes.{Bytes}
 use Rattle.refusal.specs.Refusal.{accepted}
 use Rattle.refusal.proofs.Results.{else-refused}
-use Rattle.checksum.specs.Checksum.{summed, sumHolds}
-use Rattle.checksum.proofs.Laws.{summed-last, summed-after, written-passes, passes-as-written}
+use Rattle.checksum.specs.Checksum.{summed, sumHolds, endsHold}
+use Rattle.checksum.proofs.Laws.{ends-written, ends-are, summed-after, written-passes, passes-as-written}
 use Rattle.coyote_packet.specs.declared.Packet.{Packet}
 use Rattle.coyote_packet.specs.Layout.{start, end, lowFirst, front, sumStart, packetBytes}
-use Rattle.coyote_packet.specs.Read.{payloadStart, overhead, payloadIn, wordAt, endsHold, lengthHolds, readPayload, readPacket}
+use Rattle.coyote_packet.specs.Read.{payloadStart, overhead, payloadIn, wordAt, lengthHolds, readPayload, readPacket}
 use Rattle.coyote_packet.proofs.Lengths.{packet-length}
 
 -- two bytes, low first, are the number
@@ -32,10 +32,9 @@ module _ (type : ℕ) (payload : List ℕ) where
       ap (λ (k : ℕ). part payloadStart k (packetBytes type payload)) n ∙
       summed-after sumStart end (start ∷ type ∷ lowFirst (length payload)) payload
 
-  ends-hold : endsHold (packetBytes type payload) ≡ true
+  ends-hold : endsHold start end (packetBytes type payload) ≡ true
   unfolding packetBytes
-  ends-hold =
-      eq-eqb (getD (packetBytes type payload) (length (packetBytes type payload) - 1) 0) end (summed-last sumStart end (front type payload))
+  ends-hold = ends-written sumStart start end (type ∷ (lowFirst (length payload) ++ payload))
 
   length-holds : lengthHolds (packetBytes type payload) ≡ true
   unfolding packetBytes
@@ -76,12 +75,11 @@ pub accepted-packet : (block : List ℕ) (p : Packet) → Bytes block → readPa
     → (block ≡ packetBytes (getD block 1 0) (payloadIn block)) × (readPayload (getD block 1 0) (payloadIn block) ≡ accepted p)
 unfolding readPacket packetBytes
 accepted-packet block p bytes e =
-    let a = else-refused (endsHold block) _ _ p e in
+    let a = else-refused (endsHold start end block) _ _ p e in
     let b = else-refused (lengthHolds block) _ _ p (a .1) in
     let c = else-refused (sumHolds sumStart block) _ _ p (b .1) in
-    let ends = and-eq-true-iff (eqb (getD block 0 0) start) (eqb (getD block (length block - 1) 0) end) .0 (a .0) in
+    let ends = ends-are start end block (a .0) in
     let size = eqb-true (overhead + wordAt block 2) (length block) (b .0) in
-    let last = eqb-true (getD block (length block - 1) 0) end (ends .1) in
-    let whole = passes-as-written sumStart block (omega arith) (c .0) in
-    let before = front-of (getD block 1 0) block bytes size (eqb-true (getD block 0 0) start (ends .0)) refl in
-    (whole ∙ ap (λ (z : ℕ). summed sumStart z (take (length block - 2) block)) last ∙ ap (summed sumStart end) before, c .1)
+    let whole = passes-as-written sumStart block (c .0) in
+    let before = front-of (getD block 1 0) block bytes size (ends .0) refl in
+    (whole ∙ ap (λ (z : ℕ). summed sumStart z (take (length block - 2) block)) (ends .1) ∙ ap (summed sumStart end) before, c .1)

@@ -9,10 +9,10 @@ use lib.ListN.{length, getD, drop}
 use Rattle.logic.proofs.Choice.{choice}
 use Rattle.refusal.specs.Refusal.{Result, refused, packetEnds, packetLength, packetSum, packetContent}
 use Rattle.refusal.proofs.Results.{among, RefusedAmong, of-refused}
-use Rattle.checksum.specs.Checksum.{sumHolds}
+use Rattle.checksum.specs.Checksum.{sumHolds, endsHold}
 use Rattle.coyote_packet.specs.declared.Packet.{Packet}
-use Rattle.coyote_packet.specs.Layout.{addressedEnd, readMemType, successType, failureType, sumStart, targetsBefore, targetsMax, dataMax, fitMemory, failureCodeMax}
-use Rattle.coyote_packet.specs.Read.{payloadIn, wordAt, fitAddressed, readAddressed, readMemory, readSuccess, readFailure, readPayload, endsHold, lengthHolds, readPacket}
+use Rattle.coyote_packet.specs.Layout.{start, end, addressedEnd, readMemType, successType, failureType, sumStart, targetsBefore, targetsMax, dataMax, fitMemory, failureCodeMax}
+use Rattle.coyote_packet.specs.Read.{payloadIn, wordAt, fitAddressed, readAddressed, readMemory, readSuccess, readFailure, readPayload, lengthHolds, readPacket}
 
 abbrev pub packetRefusals : List ℕ
 packetRefusals = packetEnds ∷ packetLength ∷ packetSum ∷ packetContent ∷ []
@@ -36,7 +36,7 @@ payload-listed type payload =
 every-listed : (block : List ℕ) → Listed (readPacket block)
 unfolding readPacket
 every-listed block =
-    choice Listed (endsHold block)
+    choice Listed (endsHold start end block)
     (λ _. choice Listed (lengthHolds block)
     (λ _. choice Listed (sumHolds sumStart block) (λ _. payload-listed (getD block 1 0) (payloadIn block)) (λ _. refl))
     (λ _. refl))

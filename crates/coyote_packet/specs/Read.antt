@@ -6,7 +6,7 @@ use lib.Dec.{eqb, ltb, leb}
 use lib.ListN.{length, getD, drop}
 use Rattle.logic.specs.Lists.{part}
 use Rattle.refusal.specs.Refusal.{Result, accepted, refused, andThen, packetEnds, packetLength, packetSum, packetContent}
-use Rattle.checksum.specs.Checksum.{sumHolds}
+use Rattle.checksum.specs.Checksum.{sumHolds, endsHold}
 use Rattle.coyote_packet.specs.declared.Addressed.{Addressed}
 use Rattle.coyote_packet.specs.declared.Packet.{Packet}
 use Rattle.coyote_packet.specs.declared.Packet.the-variants.{AckData, NoAckData, Ack, ReadMem, Success, Failure}
@@ -141,10 +141,6 @@ readPayload type payload =
     (cond (eqb type successType) (readSuccess payload)
     (cond (eqb type failureType) (readFailure payload) (refused packetContent))))
 
--- 24: "first or last byte, or an empty block"
-abbrev pub endsHold : List ℕ → Bool
-endsHold block = eqb (getD block 0 0) start && eqb (getD block (length block - 1) 0) end
-
 -- 25: "the packet's length bytes against the block"; a block that is too short for them has another length too
 abbrev pub lengthHolds : List ℕ → Bool
 lengthHolds block = eqb (overhead + wordAt block 2) (length block)
@@ -155,7 +151,7 @@ readSummed block = cond (sumHolds sumStart block) (readPayload (getD block 1 0) 
 
 -- a block is one packet: 24, 25, 26, 27 in this order
 unfoldable pub readPacket : List ℕ → Result Packet
-readPacket block = cond (endsHold block) (cond (lengthHolds block) (readSummed block) (refused packetLength)) (refused packetEnds)
+readPacket block = cond (endsHold start end block) (cond (lengthHolds block) (readSummed block) (refused packetLength)) (refused packetEnds)
 
 -- what a block says
 abbrev pub readMessage : List ℕ → Result Message

@@ -19,13 +19,7 @@ use refusal::PAN_ID_OVER;
 pub fn read_frame(block: &[u8]) -> Decoded
     ensures { λ r. ⌜ decodedResult r ≡ readFrame (now (block .entry)) ⌝ }
 {
-    if block.len() == 0 {
-        return Decoded::Refused(PACKET_ENDS);
-    }
-    if block[0] != START {
-        return Decoded::Refused(PACKET_ENDS);
-    }
-    if block[block.len() - 1] != END {
+    if !checksum::ends_hold(START, END, block) {
         return Decoded::Refused(PACKET_ENDS);
     }
     if block.len() < OVERHEAD as usize {
@@ -34,8 +28,7 @@ pub fn read_frame(block: &[u8]) -> Decoded
     if block[1] as usize != block.len() {
         return Decoded::Refused(PACKET_LENGTH);
     }
-    let sum_at = block.len() - 2;
-    if checksum::sum_from(SUM_START, &block[0..sum_at]) != block[sum_at] {
+    if !checksum::sum_holds(SUM_START, block) {
         return Decoded::Refused(PACKET_SUM);
     }
     Decoded::Accepted(Message {

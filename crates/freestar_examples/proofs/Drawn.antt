@@ -148,6 +148,10 @@ numbers-after : map (λ (r : Result (List ℕ)). refusalOf r) (results model mac
 unfolding modelResults byteSum fitsIn packetBytes readFrame decide
 numbers-after = ap (map (λ (r : Result (List ℕ)). refusalOf r)) (claims .agrees-with-model .1)
 
+bytes-after : take 1 (results model machine three evening) ≡ accepted (0x01 ∷ 0x05 ∷ 0x85 ∷ 0x8B ∷ 0x04 ∷ []) ∷ []
+unfolding modelResults byteSum fitsIn packetBytes readFrame decide
+bytes-after = ap (take 1) (claims .agrees-with-model .1)
+
 -- a test that passes at no element of a list passes at none that the list is split at
 at-none : {A : Type 0} (ok : A → Bool) (xs : List A) → any ok xs ≡ false → (before : List A) (x : A) (rest : List A) → xs ≡ before ++ x ∷ rest → ok x ≡ false
 at-none ok [] e [] x rest is = cc
@@ -251,6 +255,7 @@ sentences-hold = record {
   over-stays = λ x. pan-id-kept over x over-lengths .0;
   cells-after = cells-after;
   numbers-after = numbers-after;
+  bytes-after = bytes-after;
   long-address-kept = long-address-kept;
   damaged-left = damaged-left;
   exchanged = λ rest. (swapped rest .0, first-two rest);

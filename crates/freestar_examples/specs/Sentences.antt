@@ -126,13 +126,14 @@ pub record Sentences : Type 0 where
   -- settings with a PAN ID that is over accept no message, and none mends them
   pub over-refuses : (x : Delivery) (packet : List ℕ) → resultOf over x ≡ accepted packet → ⊥
   pub over-stays : (x : Delivery) → panIdFits (step over x .«pan_id») ≡ false
-  -- the clauses of the theorem on sequences: after the evening each cell holds these bytes, and these were the numbers,
+  -- the clauses of the theorem on sequences: after the evening each cell holds these bytes, and these were the numbers, and the bytes of the first answer,
   pub cells-after :
       (cells (after evening) panId ≡ 0x11 ∷ 0x22 ∷ [])
       × (cells (after evening) longAddress ≡ take 8 addresses)
       × (cells (after evening) shortAddress ≡ 0x09 ∷ 0x0A ∷ [])
       × (cells (after evening) channel ≡ 0x0C ∷ [])
   pub numbers-after : map (λ (r : Result (List ℕ)). refusalOf r) (results model machine three evening) ≡ 0 ∷ 26 ∷ 13 ∷ 0 ∷ []
+  pub bytes-after : take 1 (results model machine three evening) ≡ accepted (0x01 ∷ 0x05 ∷ 0x85 ∷ 0x8B ∷ 0x04 ∷ []) ∷ []
   -- a cell without a message of its type keeps its bytes, and a message that is refused leaves the settings,
   pub long-address-kept : cells (after evening) longAddress ≡ cells three longAddress
   pub damaged-left : step (after (delivery setChannel 5 ∷ [])) damaged ≡ after (delivery setChannel 5 ∷ [])

@@ -12,11 +12,11 @@ use lib.Seq.{length-take-le}
 use Rattle.logic.specs.Lists.{part}
 use Rattle.refusal.specs.Refusal.{accepted}
 use Rattle.refusal.proofs.Results.{else-refused}
-use Rattle.checksum.specs.Checksum.{summed, sumHolds}
-use Rattle.checksum.proofs.Laws.{summed-length, summed-last, summed-after, written-passes, passes-as-written}
+use Rattle.checksum.specs.Checksum.{summed, sumHolds, endsHold}
+use Rattle.checksum.proofs.Laws.{summed-length, ends-written, ends-are, summed-after, written-passes, passes-as-written}
 use Rattle.freestar_packet.specs.declared.Message.{Message}
 use Rattle.freestar_packet.specs.Layout.{start, end, overhead, dataStart, front, sumStart, packetBytes}
-use Rattle.freestar_packet.specs.Read.{endsHold, lengthHolds, dataIn, messageOf, readFrame}
+use Rattle.freestar_packet.specs.Read.{lengthHolds, dataIn, messageOf, readFrame}
 
 module _ (type : ℕ) (bytes : List ℕ) where
   pub packet-length : length (packetBytes type bytes) ≡ overhead + length bytes
@@ -32,10 +32,9 @@ module _ (type : ℕ) (bytes : List ℕ) where
       let n : length (packetBytes type bytes) - overhead ≡ length bytes = omega (arith, packet-length) in
       ap (λ (k : ℕ). part dataStart k (packetBytes type bytes)) n ∙ data-part
 
-  ends-hold : endsHold (packetBytes type bytes) ≡ true
+  ends-hold : endsHold start end (packetBytes type bytes) ≡ true
   unfolding packetBytes
-  ends-hold =
-      eq-eqb (getD (packetBytes type bytes) (length (packetBytes type bytes) - 1) 0) end (summed-last sumStart end (front type bytes))
+  ends-hold = ends-written sumStart start end ((overhead + length bytes) ∷ type ∷ bytes)
 
   length-holds : lengthHolds (packetBytes type bytes) ≡ true
   unfolding packetBytes
@@ -82,23 +81,22 @@ pub record Framed (block : List ℕ) (m : Message) : Type 0 where
 pub accepted-frame : (block : List ℕ) (m : Message) → readFrame block ≡ accepted m → Framed block m
 unfolding readFrame packetBytes
 accepted-frame block m e =
-    let a = else-refused (endsHold block) _ _ m e in
+    let a = else-refused (endsHold start end block) _ _ m e in
     let b = else-refused (lengthHolds block) _ _ m (a .1) in
     let c = else-refused (sumHolds sumStart block) _ _ m (b .1) in
-    let ends = and-eq-true-iff (eqb (getD block 0 0) start) (eqb (getD block (length block - 1) 0) end) .0 (a .0) in
+    let ends = ends-are start end block (a .0) in
     let sized = and-eq-true-iff (leb overhead (length block)) (eqb (getD block 1 0) (length block)) .0 (b .0) in
     let low = leb-true overhead (length block) (sized .0) in
     let size = eqb-true (getD block 1 0) (length block) (sized .1) in
-    let last = eqb-true (getD block (length block - 1) 0) end (ends .1) in
-    let whole = passes-as-written sumStart block (omega arith) (c .0) in
+    let whole = passes-as-written sumStart block (c .0) in
     let is : messageOf block ≡ m = cc in
-    let before = front-of block low size (eqb-true (getD block 0 0) start (ends .0)) in
+    let before = front-of block low size (ends .0) in
     record {
       message-is = cc;
       enough = low;
       size-is = size;
       frame-is =
-          whole ∙ ap (λ (z : ℕ). summed sumStart z (take (length block - 2) block)) last ∙ ap (summed sumStart end) before ∙
+          whole ∙ ap (λ (z : ℕ). summed sumStart z (take (length block - 2) block)) (ends .1) ∙ ap (summed sumStart end) before ∙
           ap (λ (x : Message). packetBytes (x .kind) (dataIn block)) is;
     }
 

@@ -9,10 +9,10 @@ use lib.ListN.{length}
 use Rattle.logic.proofs.Choice.{choice}
 use Rattle.refusal.specs.Refusal.{Result, accepted, refused, andThen, frameBufferShort, packetEnds, packetLength, packetSum, packetContent, panIdOver}
 use Rattle.refusal.proofs.Results.{among, RefusedAmong, of-refused}
-use Rattle.checksum.specs.Checksum.{sumHolds}
+use Rattle.checksum.specs.Checksum.{sumHolds, endsHold}
 use Rattle.freestar_packet.specs.declared.Message.{Message}
-use Rattle.freestar_packet.specs.Layout.{types, fitsIn, sumStart, packetBytes, panIdHolds}
-use Rattle.freestar_packet.specs.Read.{endsHold, lengthHolds, dataIn, readFrame, validated, readPacket}
+use Rattle.freestar_packet.specs.Layout.{start, end, types, fitsIn, sumStart, packetBytes, panIdHolds}
+use Rattle.freestar_packet.specs.Read.{lengthHolds, dataIn, readFrame, validated, readPacket}
 use Rattle.freestar_packet.specs.Encode.{inRoom, encode}
 
 -- what is refused with one of these numbers, and then with one of them again, is refused with one of them
@@ -33,7 +33,7 @@ stepRefusals = packetEnds ∷ packetLength ∷ packetSum ∷ packetContent ∷ p
 pub frame-among : (ms : List ℕ) → among ms packetEnds ≡ true → among ms packetLength ≡ true → among ms packetSum ≡ true → (block : List ℕ) → RefusedAmong ms (readFrame block)
 unfolding readFrame
 frame-among ms a b c block =
-    choice (RefusedAmong ms) (endsHold block)
+    choice (RefusedAmong ms) (endsHold start end block)
     (λ _. choice (RefusedAmong ms) (lengthHolds block) (λ _. choice (RefusedAmong ms) (sumHolds sumStart block) (λ _. tt) (λ _. c)) (λ _. b))
     (λ _. a)
 

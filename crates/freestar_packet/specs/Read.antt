@@ -6,7 +6,7 @@ use lib.Dec.{eqb, leb}
 use lib.ListN.{length, getD}
 use Rattle.logic.specs.Lists.{part}
 use Rattle.refusal.specs.Refusal.{Result, accepted, refused, andThen, packetEnds, packetLength, packetSum, packetContent, panIdOver}
-use Rattle.checksum.specs.Checksum.{sumHolds}
+use Rattle.checksum.specs.Checksum.{sumHolds, endsHold}
 use Rattle.freestar_packet.specs.declared.Message.{Message}
 use Rattle.freestar_packet.specs.declared.Decoded.{Decoded}
 use Rattle.freestar_packet.specs.declared.Decoded.the-variants.{Accepted, Refused}
@@ -16,10 +16,6 @@ use Rattle.freestar_packet.specs.Layout.{start, end, types, fitsIn, over
 abbrev pub decodedResult : Decoded → Result Message
 decodedResult (Accepted m) = accepted m
 decodedResult (Refused n) = refused n
-
--- 24: "first or last byte, or an empty block"
-abbrev pub endsHold : List ℕ → Bool
-endsHold block = eqb (getD block 0 0) start && eqb (getD block (length block - 1) 0) end
 
 -- 25: the length byte against the block, "also for a total under 5"
 abbrev pub lengthHolds : List ℕ → Bool
@@ -36,7 +32,7 @@ messageOf block = record { kind = getD block 2 0; «data_length» = length block
 -- a block is one packet, of whatever type: 24, 25, 26 in this order
 unfoldable pub readFrame : List ℕ → Result Message
 readFrame block =
-    cond (endsHold block)
+    cond (endsHold start end block)
     (cond (lengthHolds block)
     (cond (sumHolds sumStart block) (accepted (messageOf block)) (refused packetSum))
     (refused packetLength))

@@ -32,9 +32,10 @@ queryType network = queryPanId
 queryType address = queryAddress
 queryType frequency = queryChannel
 
--- For every list of blocks, each with room for a response of its own, from all settings: all that `Claims` says of the machine beside the
--- reference model. So every cell and every answer are the model's, each cell holds what the last accepted set gave it, and neighbours that
--- share no cell can be exchanged.
+-- For every list of blocks, each with the length of a response buffer of its own, from all settings: all that `Claims` says of the machine
+-- beside the reference model. So every cell and every answer are the model's, each cell holds what the last accepted set gave it, or its first
+-- value, and neighbours that share no cell can be exchanged. `ArrayLengths` asks for what settings in a program always have:
+-- `Settings::array_lengths` of the crate freestar_settings has it as its contract.
 abbrev pub SequenceTheorem : Type 0
 SequenceTheorem = (s : Settings) → ArrayLengths s → (xs : List Delivery) → Claims model machine s xs
 

@@ -8,7 +8,7 @@ ghost use Rattle.freestar_packet.specs.Layout.{requests, fitsIn, panIdFits};
 ghost use Rattle.freestar_packet.specs.Read.{decodedResult};
 ghost use Rattle.freestar_packet.specs.Encode.{inRoom};
 ghost use Rattle.freestar_model.specs.Model.{delivery};
-ghost use Rattle.freestar_settings.specs.Settings.{addressBytes, stored, answer, validate, step, resultOf};
+ghost use Rattle.freestar_settings.specs.Settings.{ArrayLengths, addressBytes, stored, answer, validate, step, resultOf};
 use freestar_packet::DATA_START;
 use freestar_packet::Decoded;
 use freestar_packet::QUERY_ADDRESS;
@@ -36,6 +36,16 @@ pub struct Settings {
     pub long_address: [u8; 8],
     pub short_address: [u8; 2],
     pub channel: u8,
+}
+
+impl Settings {
+    // The settings as they are. Its contract is what it is for: the lengths of their arrays, which a theorem about the settings of a
+    // program may then ask for.
+    pub fn array_lengths(self) -> Settings
+        ensures { λ r. ⌜ (r ≡ self) × ArrayLengths self ⌝ }
+    {
+        self
+    }
 }
 
 // What came of a message: the settings after it, and the refusal or the length of the answer.
