@@ -34,5 +34,8 @@ pub fn ends_hold(first: u8, last: u8, block: &[u8]) -> bool
     if block.len() == 0 {
         return false;
     }
-    (block[0] == first) & (block[block.len() - 1] == last)
+    if block[0] != first {
+        return false;
+    }
+    block[block.len() - 1] == last
 }
