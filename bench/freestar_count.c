@@ -3,7 +3,7 @@
  *
  *     count CALLS OPERATION
  *
- * The first line that it prints tells what came of a call: every field of the result, every byte of
+ * The first line that it prints says what came of a call: every field of the result, every byte of
  * the buffer and of the settings afterwards. The second has the nanoseconds of a call. */
 
 #include <stdio.h>

@@ -48,7 +48,7 @@ PACKETS = (
     Call("Read of a charge's packet", "decode", "decode_charge"),
     Call("Read of 1,023 data bytes with a wrong sum", "decode", "decode_damaged"),
 )
-PACKETS_LIMIT = 1.3  # the most instructions of the library for each of the peer's
+LIMIT = 1.3  # the most instructions of a radio's library for each of the peer's
 MESSAGES = (
     Call("Set PAN ID", "execute", "execute_set_pan_id"),
     Call("Query PAN ID", "execute", "execute_query_pan_id"),
@@ -269,32 +269,35 @@ def commands(folder, plan):
 
 
 def measured_calls(folder, plan, libraries, calls):
-    """The table of a library's calls beside its peer's, and the largest ratio of their instructions."""
+    """The table of a library's calls beside its peer's, and the largest ratio of their instructions: of all, of those that are
+    accepted, and of those that are refused."""
     taken = {call: measured(folder, plan, libraries, call) for call in calls}
     rows = [(call.name, f"`{libraries.library}_{call.function}`", *measured_cells(one)) for call, one in taken.items()]
-    most = max(ratio(one.instructions) for one in taken.values())
+    ratios = [(ratio(one.instructions), one.result.startswith("refused")) for one in taken.values()]
+    most = [max(each for each, refused in ratios if refused in kind) for kind in ((False, True), (False,), (True,))]
     return table(("Call", "Function", *MEASURED_HEAD), *rows), most
 
 
 def packets(folder, plan):
     """Single packets read and written, by the Coyote library and by its C peer."""
-    text, most = measured_calls(folder, plan, COYOTE, PACKETS)
+    text, (most, _, _) = measured_calls(folder, plan, COYOTE, PACKETS)
     return (
         "### Coyote packets, one call\n\n"
         "The data are those of an AckData packet of 1,036 bytes, a charge's packet has 16 bytes, and each has one target. Every "
         f"field of the result and every byte of the buffer is the same in both. {how_measured(plan)}\n\n"
         + text
-        + f"\nLimit: at most {PACKETS_LIMIT} times the C peer's instructions. The largest ratio here is {most:.2f}.\n"
+        + f"\nLimit: at most {LIMIT} times the C peer's instructions. The largest ratio here is {most:.2f}.\n"
     )
 
 
 def messages(folder, plan):
     """Single messages executed, read and written, by the Freestar library and by its C peer."""
-    text, most = measured_calls(folder, plan, FREESTAR, MESSAGES)
+    text, (_, accepted, refused) = measured_calls(folder, plan, FREESTAR, MESSAGES)
     return (
         "### Freestar messages, one call\n\n"
         "A packet has 5 to 15 bytes. Every field of the result and every byte of the buffer and of the settings is the same in "
-        f"both. {how_measured(plan)}\n\n{text}\nThe largest ratio of instructions here is {most:.2f}.\n"
+        f"both. {how_measured(plan)}\n\n{text}\nLimit: at most {LIMIT} times the C peer's instructions. The largest ratio here is {accepted:.2f} where "
+        f"the message is accepted, and {refused:.2f} where it is refused (`FREESTAR-33`).\n"
     )
 
 

@@ -1,30 +1,29 @@
 -- The sentences, each drawn from its law; only that a literal block is read, or what a literal message makes of literal settings, is computed.
 -- Assumes nothing.
 use Prim.Native.Nat.{ℕ, suc, _+_, _*_, _<_}
-use mathlib.Core.Path.{_≡_, refl, sym, ap, _∙_}
+use mathlib.Core.Path.{_≡_, refl, sym, ap, subst, _∙_}
 use mathlib.Core.Bool.{Bool, true, false, true≢false, false≢true}
 use mathlib.Core.List.{List, [], _∷_, _++_, map}
 use native.Mathlib.Omega.{arith}
 use borrow.Author.Tests.{lt-ltb, eq-eqb}
 use lib.Dec.{eqb}
-use lib.ListN.{length, getD, take}
+use lib.ListN.{length, getD, take, length-append}
 use Rattle.logic.specs.Lists.{any}
 use Rattle.logic.proofs.Choice.{neither}
 use Rattle.refusal.specs.Refusal.{Result, accepted, refused, refusalOf, bufferAfter}
 use Rattle.checksum.specs.Checksum.{byteSum}
 use Rattle.sequence.specs.Model.{Apart, storesIn, touches, next, after as modelAfter, results as modelResults, lastOr, swapAt}
-use Rattle.sequence.specs.Machine.{run, results, given, Claims}
+use Rattle.sequence.specs.Machine.{run, results, given, NoneStores, Claims}
 use Rattle.freestar_packet.specs.declared.Decoded.the-variants.{Accepted}
-use Rattle.freestar_packet.specs.Layout.{answerTo, fitsIn, packetBytes, panIdFits, isAccepted}
+use Rattle.freestar_packet.specs.Layout.{answerTo, fitsIn, packetBytes, isAccepted}
 use Rattle.freestar_packet.specs.Read.{dataIn, readFrame, readPacket, content, readContent}
 use Rattle.freestar_packet.specs.Encode.{encode}
 use Rattle.freestar_packet.specs.Laws.{LaidOut}
 use Rattle.freestar_packet.proofs.Laws.{read-back, read-back-only, read-is-laid-out, written-is-read, read-is-written}
 use Rattle.freestar_packet.proofs.Refusals.{read-refusal, write-refusal}
 use Rattle.freestar_packet.proofs.Determined.{decoded-determined}
-use Rattle.freestar_model.specs.Cells.{Cell, panId, longAddress, shortAddress, channel, Setting, network, address, frequency}
+use Rattle.freestar_model.specs.Cells.{Cell, panId, longAddress, shortAddress, channel, isIn, Setting, network, address, frequency, cellsOf}
 use Rattle.freestar_model.specs.Model.{Delivery, delivery, decide, model}
-use Rattle.freestar_settings.specs.declared.Settings.{Settings}
 use Rattle.freestar_settings.specs.Settings.{ArrayLengths, settings, answer, stored, validate, resultOf, step}
 use Rattle.freestar_sequence.specs.Machine.{cells, machine}
 use Rattle.freestar_sequence.specs.Laws.{setType, queryType}
@@ -71,6 +70,14 @@ in-buffer : readContent (take 15 (bufferAfter (encode 0x84 addresses 20) (unwrit
 unfolding byteSum fitsIn packetBytes encode
 in-buffer = written-is-read 0x84 addresses (unwritten 20) addressBlock refl
 
+any-channel-in-buffer : (b : ℕ) → readContent (take 6 (bufferAfter (encode 0x05 (b ∷ []) 20) (unwritten 20))) ≡ accepted (content 0x05 (b ∷ []))
+unfolding fitsIn packetBytes encode
+any-channel-in-buffer b = written-is-read 0x05 (b ∷ []) (unwritten 20) (packetBytes 0x05 (b ∷ [])) refl
+
+set-read : readPacket setPan ≡ accepted (record { kind = 0x01; «data_length» = 2 })
+unfolding byteSum fitsIn readFrame readPacket
+set-read = refl
+
 -- the settings of the examples have arrays of their lengths
 three-lengths : ArrayLengths three
 three-lengths = record { pan-id = refl; long-address = refl; short-address = refl }
@@ -81,6 +88,10 @@ over-lengths = record { pan-id = refl; long-address = refl; short-address = refl
 address-told : readContent (take 15 (bufferAfter (resultOf three (delivery askAddresses 20)) (unwritten 20))) ≡ accepted (content 0x84 addresses)
 unfolding byteSum fitsIn packetBytes readFrame answer validate resultOf
 address-told = answer-is-read three (delivery askAddresses 20) (unwritten 20) addressBlock three-lengths refl
+
+set-acknowledged : readContent (take 5 (bufferAfter (resultOf three (delivery setPan 20)) (unwritten 20))) ≡ accepted (content 0x81 [])
+unfolding byteSum fitsIn packetBytes readFrame answer validate resultOf
+set-acknowledged = answer-is-read three (delivery setPan 20) (unwritten 20) (packetBytes 0x81 []) three-lengths refl
 
 channel-told : (b : ℕ) (packet : List ℕ) → resultOf (settings (0x34 ∷ 0x12 ∷ []) (take 8 addresses) (0x09 ∷ 0x0A ∷ []) b) (delivery askChannel 6) ≡ accepted packet
     → readContent (take (length packet) (bufferAfter (accepted packet) (unwritten 6))) ≡ accepted (content 0x86 (b ∷ []))
@@ -130,9 +141,27 @@ set-channel-told : Told setChannel askChannel (0x01 ∷ 0x06 ∷ 0x86 ∷ 0x0C �
 unfolding byteSum packetBytes
 set-channel-told = told frequency setChannel askChannel refl refl
 
--- a type is no other one
-other : {n m : ℕ} (type : ℕ) → type ≡ n → (n ≡ m → ⊥) → type ≡ m → ⊥
-other type e apart f = apart (sym e ∙ f)
+-- the damaged set between stores nothing
+none-between : NoneStores model machine (after (delivery setChannel 5 ∷ [])) (damaged ∷ []) channel
+unfolding run byteSum fitsIn packetBytes readFrame decide answer stored validate resultOf step
+none-between [] x rest e =
+    let same : damaged ≡ x = cc in
+    subst (λ (y : Delivery). storesIn model (cells (after (delivery setChannel 5 ∷ []))) y channel ≡ false) same refl
+none-between (y ∷ before) x rest e =
+    absurd (omega (arith, ap length e, length-append before (x ∷ rest)))
+
+of-channel : (c : Cell) → isIn (cellsOf frequency) c ≡ true → c ≡ channel
+of-channel panId e = absurd (false≢true e)
+of-channel longAddress e = absurd (false≢true e)
+of-channel shortAddress e = absurd (false≢true e)
+of-channel channel e = refl
+
+damaged-between : (packet : List ℕ) → resultOf (after (delivery setChannel 5 ∷ damaged ∷ [])) (delivery askChannel 6) ≡ accepted packet
+    → packet ≡ 0x01 ∷ 0x06 ∷ 0x86 ∷ 0x0C ∷ 0x99 ∷ 0x04 ∷ []
+unfolding run byteSum fitsIn packetBytes readFrame answer stored validate resultOf step
+damaged-between packet e =
+    set-is-told three [] (damaged ∷ []) (delivery setChannel 5) (delivery askChannel 6) frequency (packetBytes 0x85 []) packet three-lengths refl refl
+    (λ c of-k. subst (λ (d : Cell). NoneStores model machine (after (delivery setChannel 5 ∷ [])) (damaged ∷ []) d) (sym (of-channel c of-k)) none-between) e refl
 
 -- the clauses of the theorem
 cells-after :
@@ -207,6 +236,28 @@ module _ (rest : List Delivery) where
   unfolding results swapAt byteSum fitsIn packetBytes readFrame answer stored validate resultOf step
   first-two = ap (take 2) (swapped .1)
 
+channel-and-query : Apart model (cells three) (delivery setChannel 5) (delivery askPan 7)
+unfolding byteSum fitsIn packetBytes readFrame decide
+channel-and-query = record { first-stores = first; second-stores = second }
+  where
+    first : (c : Cell) → storesIn model (cells three) (delivery setChannel 5) c ≡ true → touches model (next model (cells three) (delivery setChannel 5)) (delivery askPan 7) c ≡ false
+    first panId e = absurd (false≢true e)
+    first longAddress e = refl
+    first shortAddress e = refl
+    first channel e = refl
+
+    second : (c : Cell) → storesIn model (next model (cells three) (delivery setChannel 5)) (delivery askPan 7) c ≡ true → touches model (cells three) (delivery setChannel 5) c ≡ false
+    second panId e = refl
+    second longAddress e = refl
+    second shortAddress e = refl
+    second channel e = absurd (false≢true e)
+
+exchanged-with-query : (rest : List Delivery) → after (delivery askPan 7 ∷ delivery setChannel 5 ∷ rest) ≡ after (delivery setChannel 5 ∷ delivery askPan 7 ∷ rest)
+unfolding run
+exchanged-with-query rest =
+    sequence-theorem three three-lengths (delivery setChannel 5 ∷ delivery askPan 7 ∷ rest)
+    .exchange [] (delivery setChannel 5) (delivery askPan 7) rest refl channel-and-query .0
+
 not-apart : Apart model (cells three) (delivery setChannel 5) (delivery askChannel 6) → ⊥
 unfolding byteSum fitsIn packetBytes readFrame decide
 not-apart apart = true≢false (apart .first-stores channel refl)
@@ -224,33 +275,34 @@ sentences-hold = record {
   address-packet = address-laid-out .packet-is;
   address-place = address-laid-out .data-within;
   address-small = address-laid-out .data-small;
+  set-packet = read-is-laid-out setPan (record { kind = 0x01; «data_length» = 2 }) set-read .packet-is;
   one-answer = λ r e. decoded-determined r (Accepted (record { kind = 0x84; «data_length» = 10 })) (e ∙ address-read);
   in-buffer = in-buffer;
+  any-channel-in-buffer = any-channel-in-buffer;
+  set-again = read-is-written setPan (record { kind = 0x01; «data_length» = 2 }) 7 set-read (omega arith);
   again = (
     read-is-written addressBlock (record { kind = 0x84; «data_length» = 10 }) 15 address-read (omega arith),
     read-is-written addressBlock (record { kind = 0x84; «data_length» = 10 }) 20 address-read (omega arith),
   );
-  reader-numbers = λ block e. false≢true (read-refusal block 13 (has-number (readPacket block) 12 e));
-  writer-numbers = λ type bytes room e. false≢true (write-refusal type bytes room 24 (has-number (encode type bytes room) 23 e));
-  message-numbers = λ s x e. false≢true (refusal-numbers s x 2 (has-number (resultOf s x) 1 e));
+  reader-numbers = read-refusal;
+  writer-numbers = write-refusal;
+  message-numbers = refusal-numbers;
   address-told = address-told;
   channel-told = channel-told;
+  set-acknowledged = set-acknowledged;
   last-channel = last-channel;
   last-pan-id = last-pan-id;
   first-addresses = first-addresses;
   pan-id-told = pan-id-told;
   addresses-told = addresses-told;
   set-channel-told = set-channel-told;
-  only-pan-id = λ s x t.
-      let left = only-sets s x .1 (other (getD (x .block) 2 0) t (λ e. omega arith)) in
-      (left .0, left .1, only-sets s x .2 (other (getD (x .block) 2 0) t (λ e. omega arith)));
-  only-addresses = λ s x t.
-      (only-sets s x .0 (other (getD (x .block) 2 0) t (λ e. omega arith)), only-sets s x .2 (other (getD (x .block) 2 0) t (λ e. omega arith)));
-  only-channel = λ s x t.
-      let left = only-sets s x .1 (other (getD (x .block) 2 0) t (λ e. omega arith)) in
-      (only-sets s x .0 (other (getD (x .block) 2 0) t (λ e. omega arith)), left .0, left .1);
+  damaged-between = damaged-between;
+  pan-id-left = λ s x other. only-sets s x .0 other;
+  addresses-left = λ s x other. only-sets s x .1 other;
+  channel-left = λ s x other. only-sets s x .2 other;
   reset-left = λ s room. reset-leaves s (delivery resetRadio room) refl;
   refused-left = λ s x e. refused-leaves s x 13 (has-number (resultOf s x) 12 e);
+  pan-id-stays = λ x. pan-id-kept three x three-lengths .0;
   over-refuses = λ x packet e. false≢true (pan-id-kept over x over-lengths .1 packet e);
   over-stays = λ x. pan-id-kept over x over-lengths .0;
   cells-after = cells-after;
@@ -259,6 +311,7 @@ sentences-hold = record {
   long-address-kept = long-address-kept;
   damaged-left = damaged-left;
   exchanged = λ rest. (swapped rest .0, first-two rest);
+  exchanged-with-query = exchanged-with-query;
   not-apart = not-apart;
   nothing-hidden = claims .nothing-hidden;
 }

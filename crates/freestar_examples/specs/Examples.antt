@@ -112,10 +112,12 @@ examples =
     holds (onBlock (0x01 ∷ 0x05 ∷ 0x02 ∷ 0x07 ∷ 0x04 ∷ [])) (refusal 26) ∷
     holds (onBlock (0x01 ∷ 0x05 ∷ 0x02 ∷ 0x02 ∷ 0x04 ∷ [])) (refusal 26) ∷
     holds (onBlock (0x01 ∷ 0x05 ∷ 0x02 ∷ 0x09 ∷ 0x04 ∷ [])) (refusal 26) ∷
-    -- 26: two of 004's printed sums that are wrong, A5 and A7; with the right sums they are 27
+    -- 26: 004's printed sums that are wrong, A5, A7 and A8; with the right sums they are 27
     holds (onBlock (0x01 ∷ 0x05 ∷ 0xA5 ∷ 0xA9 ∷ 0x04 ∷ [])) (refusal 26) ∷
     holds (onBlock (0x01 ∷ 0x05 ∷ 0xA7 ∷ 0xA6 ∷ 0x04 ∷ [])) (refusal 26) ∷
+    holds (onBlock (0x01 ∷ 0x05 ∷ 0xA8 ∷ 0xA6 ∷ 0x04 ∷ [])) (refusal 26) ∷
     holds (onBlock (0x01 ∷ 0x05 ∷ 0xA5 ∷ 0xAB ∷ 0x04 ∷ [])) (refusal 27) ∷
+    holds (onBlock (0x01 ∷ 0x05 ∷ 0xA8 ∷ 0xAE ∷ 0x04 ∷ [])) (refusal 27) ∷
     holds (onBlock (0x01 ∷ 0x05 ∷ 0xA7 ∷ 0xAD ∷ 0x04 ∷ [])) (refusal 27) ∷
     -- 27: a type that is not served, 8F for the address as 004's table of fields has it, and data of another length
     holds (onBlock (0x01 ∷ 0x05 ∷ 0x07 ∷ 0x0D ∷ 0x04 ∷ [])) (refusal 27) ∷

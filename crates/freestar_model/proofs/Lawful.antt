@@ -3,20 +3,19 @@
 -- Assumes nothing.
 use Prim.Native.Nat.{ℕ, _+_}
 use mathlib.Core.Path.{_≡_, refl, sym, ap, _∙_}
-use mathlib.Core.Bool.{Bool, true, false, cond, not, _&&_, _||_, or-true, and-eq-true-iff}
-use mathlib.Core.List.{List, [], _∷_, _++_}
-use native.Mathlib.Omega.{arith}
+use mathlib.Core.Bool.{Bool, true, false, cond, _&&_, _||_, or-true, and-eq-true-iff}
+use mathlib.Core.List.{List, [], _∷_}
 use borrow.Author.Tests.{eq-eqb}
 use lib.Dec.{eqb, ltb}
 use lib.ListN.{length, take}
-use Rattle.logic.proofs.Choice.{choice, by-cases, either, implied}
-use Rattle.sequence.specs.Model.{Cells, accepts, storesIn, touches, next, Lawful}
+use Rattle.logic.proofs.Choice.{choice, implied}
+use Rattle.sequence.specs.Model.{next, Lawful}
 use Rattle.refusal.specs.Refusal.{Result, accepted, refused}
 use Rattle.freestar_packet.specs.declared.Message.{Message}
 use Rattle.freestar_packet.specs.Layout.{setPanId, queryPanId, setAddress, queryAddress, setChannel, queryChannel, answerTo, requests, fitsIn, overhead, packetBytes, panIdFits, hasPanId, panIdHolds}
 use Rattle.freestar_packet.specs.Read.{dataIn, readFrame}
-use Rattle.freestar_model.specs.Cells.{Cell, panId, longAddress, shortAddress, channel, number, isIn, network, address, frequency, Action, set, query, reset, actionOf, readBy, storedBy, total, joined}
-use Rattle.freestar_model.specs.Model.{Delivery, Decision, refuse, execute, decideRoom, decideMessage, decideFrame, decideGiven, decide, isAccepted, reads, stores, given, answered, model}
+use Rattle.freestar_model.specs.Cells.{Cell, panId, number, isIn, Action, actionOf, readBy, total, joined}
+use Rattle.freestar_model.specs.Model.{Delivery, Decision, refuse, execute, decideMessage, decideFrame, decideGiven, decide, isAccepted, reads, stores, given, answered, model}
 
 -- the record's PAN ID after a decision fits as it did before
 abbrev Kept : (Cell → List ℕ) → Decision → Type 0

@@ -64,3 +64,16 @@ pub cells-hold :
     × (after model held messages channel ≡ 0xFF ∷ [])
 unfolding after byteSum fitsIn packetBytes readFrame decide
 cells-hold = (refl, refl, refl, refl)
+
+-- a PAN ID of 16,384 in its cell: no message is accepted, whatever the room
+abbrev heldOver : Cell → List ℕ
+heldOver panId = 0x00 ∷ 0x40 ∷ []
+heldOver longAddress = held longAddress
+heldOver shortAddress = held shortAddress
+heldOver channel = held channel
+
+pub over-refused :
+    results model heldOver (delivery (0x01 ∷ 0x05 ∷ 0x18 ∷ 0x1E ∷ 0x04 ∷ []) 0 ∷ delivery (0x01 ∷ 0x07 ∷ 0x01 ∷ 0x34 ∷ 0x12 ∷ 0x4F ∷ 0x04 ∷ []) 5 ∷ [])
+    ≡ refused 28 ∷ refused 28 ∷ []
+unfolding results byteSum fitsIn packetBytes readFrame decide
+over-refused = refl

@@ -1,7 +1,7 @@
 -- Document 02, Ask 11, "a small record of PAN ID (14 bits), addresses and channel": the cells, what messages do to them, and the table of
 -- which cells each reads and stores in.
 use Prim.Native.Nat.{ℕ, _+_}
-use mathlib.Core.Bool.{Bool, false, cond}
+use mathlib.Core.Bool.{Bool, cond}
 use mathlib.Core.List.{List, [], _∷_, _++_}
 use lib.Dec.{eqb}
 use lib.ListN.{take, drop}

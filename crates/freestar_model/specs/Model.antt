@@ -35,7 +35,7 @@ decideMessage fits room type bytes =
     (cond (panIdHolds type bytes && fits) (decideRoom room type bytes (actionOf type)) (refuse panIdOver))
     (refuse packetContent)
 
--- 24, 25, 26 stand before those
+-- 24, 25, 26 come before these
 abbrev pub decideFrame : (fits : Bool) → Delivery → Result Message → Decision
 decideFrame fits x (accepted m) = decideMessage fits (x .room) (m .kind) (dataIn (x .block))
 decideFrame fits x (refused n) = refuse n

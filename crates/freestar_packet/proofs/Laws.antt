@@ -1,7 +1,7 @@
 -- The packet of an accepted message is read as that message and no other packet is read as itself; a block that is read is a packet of the
 -- layout; what is written is read as that, and what is read, written again, is the same block.
 -- Assumes nothing.
-use Prim.Native.Nat.{ℕ, _+_, _-_, _≤_}
+use Prim.Native.Nat.{ℕ, _+_, _-_}
 use mathlib.Core.Path.{_≡_, refl, sym, ap, subst, _∙_}
 use mathlib.Core.Bool.{true, and-eq-true-iff}
 use mathlib.Core.List.{List}
@@ -15,9 +15,9 @@ use Rattle.refusal.specs.Refusal.{Result, accepted, refused, andThen}
 use Rattle.refusal.proofs.Results.{never-both, else-refused, then-refused}
 use Rattle.freestar_packet.specs.declared.Message.{Message}
 use Rattle.freestar_packet.specs.Layout.{types, fitsIn, overhead, dataStart, packetBytes, panIdHolds, isAccepted}
-use Rattle.freestar_packet.specs.Read.{dataIn, messageOf, readFrame, validated, readPacket, content, contentIn, readContent}
+use Rattle.freestar_packet.specs.Read.{dataIn, readFrame, validated, readPacket, content, contentIn}
 use Rattle.freestar_packet.specs.Encode.{inRoom, encode}
-use Rattle.freestar_packet.specs.Laws.{ReadBack, ReadBackOnly, dataMax, LaidOut, ReadIsLaidOut, WrittenIsRead, ReadIsWritten}
+use Rattle.freestar_packet.specs.Laws.{ReadBack, ReadBackOnly, ReadIsLaidOut, WrittenIsRead, ReadIsWritten}
 use Rattle.freestar_packet.proofs.Types.{fits-small}
 use Rattle.freestar_packet.proofs.Frame.{packet-length, data-part, data-back, packet-read, accepted-frame, data-length-is, data-within}
 

@@ -10,7 +10,6 @@ use Rattle.logic.proofs.Choice.{choice}
 use Rattle.refusal.specs.Refusal.{Result, accepted, refused, andThen, frameBufferShort, packetEnds, packetLength, packetSum, packetContent, panIdOver}
 use Rattle.refusal.proofs.Results.{among, RefusedAmong, of-refused}
 use Rattle.checksum.specs.Checksum.{sumHolds, endsHold}
-use Rattle.freestar_packet.specs.declared.Message.{Message}
 use Rattle.freestar_packet.specs.Layout.{start, end, types, fitsIn, sumStart, packetBytes, panIdHolds}
 use Rattle.freestar_packet.specs.Read.{lengthHolds, dataIn, readFrame, validated, readPacket}
 use Rattle.freestar_packet.specs.Encode.{inRoom, encode}

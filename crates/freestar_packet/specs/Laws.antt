@@ -9,7 +9,7 @@ use Rattle.logic.specs.Lists.{part}
 use Rattle.refusal.specs.Refusal.{accepted, outcomeOf, bufferAfter}
 use Rattle.freestar_packet.specs.declared.Message.{Message}
 use Rattle.freestar_packet.specs.Layout.{dataStart, packetBytes, isAccepted}
-use Rattle.freestar_packet.specs.Read.{readPacket, content, contentIn, readContent}
+use Rattle.freestar_packet.specs.Read.{readPacket, content, readContent}
 use Rattle.freestar_packet.specs.Encode.{encode}
 
 -- the packet of an accepted message is read as exactly that
@@ -35,7 +35,7 @@ pub record LaidOut (block : List ℕ) (m : Message) : Type 0 where
 abbrev pub ReadIsLaidOut : Type 0
 ReadIsLaidOut = (block : List ℕ) (m : Message) → readPacket block ≡ accepted m → LaidOut block m
 
--- what a writer leaves at the front of a buffer, as many bytes as it tells, is read as exactly what was written
+-- what a writer leaves at the front of a buffer, as many bytes as it returns, is read as exactly what was written
 abbrev pub WrittenIsRead : Type 0
 WrittenIsRead =
     (type : ℕ) (bytes buffer packet : List ℕ)

@@ -124,6 +124,7 @@ pub fn pan_id_holds(kind: u8, content: &[u8]) -> bool
     if !has_pan_id(kind) {
         return true;
     }
+    // Data of another length are refused with 27, before their PAN ID is looked at.
     if content.len() < PAN_ID_LENGTH {
         return true;
     }

@@ -2,21 +2,20 @@
 -- Assumes nothing.
 use Prim.Native.Nat.{ℕ, _+_}
 use mathlib.Core.Path.{_≡_, refl, sym, ap, subst, _∙_}
-use mathlib.Core.Bool.{Bool, true, false, cond}
+use mathlib.Core.Bool.{true, false, cond}
 use mathlib.Core.List.{List, [], _∷_, _++_, append-nil}
 use native.Mathlib.Omega.{arith}
 use borrow.Author.Tests.{eqb-true}
 use lib.Dec.{eqb}
 use lib.ListN.{length, getD, take, drop, length-append, length-drop}
 use lib.Seq.{length-take-le}
-use Rattle.logic.specs.Lists.{part}
 use Rattle.logic.proofs.Choice.{by-cases}
-use Rattle.freestar_packet.specs.Layout.{setPanId, queryPanId, setAddress, queryAddress, setChannel, queryChannel, answerTo, requests, fitsIn, overhead, packetBytes}
+use Rattle.freestar_packet.specs.Layout.{setPanId, queryPanId, setAddress, queryAddress, setChannel, queryChannel, answerTo, requests, fitsIn, overhead}
 use Rattle.freestar_packet.proofs.Types.{pan-id-size, address-size, channel-size}
 use Rattle.freestar_packet.proofs.Frame.{packet-length}
 use Rattle.freestar_model.specs.Cells.{Cell, panId, longAddress, shortAddress, channel, size, isIn, actionOf, readBy, storedBy, total, joined, cut}
 use Rattle.freestar_settings.specs.declared.Settings.{Settings}
-use Rattle.freestar_settings.specs.Settings.{ArrayLengths, settings, answerData, answer, stored}
+use Rattle.freestar_settings.specs.Settings.{ArrayLengths, answerData, answer, stored}
 use Rattle.freestar_sequence.specs.Machine.{cells}
 
 -- a type is none of the six that read or set

@@ -1,9 +1,9 @@
 -- `execute` follows the model: it decides as the model does, so its answer and every field after it are the model's.
 -- Assumes nothing.
-use Prim.Native.Nat.{ℕ, _+_}
-use mathlib.Core.Path.{_≡_, refl, sym, ap, subst, _∙_}
-use mathlib.Core.Bool.{Bool, true, false, cond, _&&_}
-use mathlib.Core.List.{List, [], _∷_}
+use Prim.Native.Nat.{ℕ}
+use mathlib.Core.Path.{_≡_, refl, sym, ap, _∙_}
+use mathlib.Core.Bool.{true, cond, _&&_}
+use mathlib.Core.List.{List}
 use lib.Dec.{ltb}
 use lib.ListN.{length}
 use Rattle.logic.proofs.Choice.{by-cases}
@@ -11,14 +11,14 @@ use Rattle.sequence.specs.Model.{next}
 use Rattle.sequence.specs.Machine.{Follows}
 use Rattle.refusal.specs.Refusal.{Result, accepted, refused, andThen, frameBufferShort}
 use Rattle.freestar_packet.specs.declared.Message.{Message}
-use Rattle.freestar_packet.specs.Layout.{answerTo, requests, fitsIn, overhead, packetBytes, panIdFits, panIdHolds}
+use Rattle.freestar_packet.specs.Layout.{answerTo, requests, fitsIn, packetBytes, panIdFits, panIdHolds}
 use Rattle.freestar_packet.specs.Read.{dataIn, readFrame}
 use Rattle.freestar_packet.specs.Encode.{inRoom}
-use Rattle.freestar_model.specs.Cells.{Cell, panId, longAddress, shortAddress, channel, actionOf, readBy, total}
+use Rattle.freestar_model.specs.Cells.{Cell, panId, longAddress, shortAddress, channel, actionOf}
 use Rattle.freestar_model.specs.Model.{Delivery, Decision, refuse, execute, decideFrame, decide, stores, given, answered, model}
 use Rattle.freestar_settings.specs.declared.Settings.{Settings}
-use Rattle.freestar_settings.specs.Settings.{ArrayLengths, settings, answer, stored, validateMessage, validate, resultOf, settingsBy, step}
-use Rattle.freestar_settings.proofs.Accepted.{Valid, validated}
+use Rattle.freestar_settings.specs.Settings.{ArrayLengths, settings, answer, validateMessage, validate, resultOf, settingsBy, step}
+use Rattle.freestar_settings.proofs.Accepted.{validated}
 use Rattle.freestar_sequence.specs.Machine.{cells, machine}
 use Rattle.freestar_sequence.proofs.Agreement.{data-agree, stored-agree, answer-length, lengths-kept}
 

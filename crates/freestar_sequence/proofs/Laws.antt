@@ -2,17 +2,17 @@
 -- Assumes nothing.
 use Prim.Native.Nat.{ℕ, _+_}
 use mathlib.Core.Path.{_≡_, refl, sym, ap, subst, _∙_, fun-ext}
-use mathlib.Core.Bool.{Bool, true, false, cond, _&&_, false≢true}
-use mathlib.Core.List.{List, [], _∷_, _++_, append-nil}
+use mathlib.Core.Bool.{true, _&&_, false≢true}
+use mathlib.Core.List.{List, _∷_, _++_, append-nil}
 use native.Mathlib.Omega.{arith}
 use borrow.Author.Tests.{ne-eqb}
 use lib.Dec.{eqb, ltb}
-use lib.ListN.{length, getD, take, drop, length-drop, take-append-drop}
+use lib.ListN.{length, take, drop, length-drop, take-append-drop}
 use lib.Seq.{take-all}
 use Rattle.logic.proofs.Choice.{choice, by-cases}
 use Rattle.logic.proofs.Written.{written-front}
-use Rattle.sequence.specs.Model.{storesIn, next, lastOr}
-use Rattle.sequence.specs.Machine.{run, given, NoneStores}
+use Rattle.sequence.specs.Model.{storesIn}
+use Rattle.sequence.specs.Machine.{run}
 use Rattle.sequence.proofs.Theorem.{sequence-claims, run-admissible}
 use Rattle.refusal.specs.Refusal.{Result, accepted, refused, andThen}
 use Rattle.refusal.proofs.Results.{never-both, then-refused, RefusedAmong, of-refused}

@@ -1,7 +1,7 @@
 -- Document 02, Ask 11: what holds of messages on settings, one by one and in sequences. The statements alone; `proofs/` has their proofs.
 use Prim.Native.Nat.{ℕ}
 use mathlib.Core.Path.{_≡_}
-use mathlib.Core.Bool.{true, false}
+use mathlib.Core.Bool.{true}
 use mathlib.Core.List.{List, [], _∷_, _++_}
 use lib.Dec.{eqb}
 use lib.ListN.{length, getD, take}

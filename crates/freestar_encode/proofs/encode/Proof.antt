@@ -1,12 +1,11 @@
 -- `encode` meets its contract: its tests are those of the definition, in its order.
 -- Assumes nothing.
-use mathlib.Core.Bool.{true, _&&_}
 use mathlib.Core.Path.{_≡_, refl, sym, ap, _∙_}
 use native.Mathlib.Omega.{arith}
 use borrow.Author.Needs.{needs}
 use borrow.Author.Tests.{lt-ltb, le-ltb, not-true, not-false}
 use lib.ListN.{length}
-use Rattle.refusal.specs.Refusal.{accepted, none, outcome}
+use Rattle.refusal.specs.Refusal.{none, outcome}
 use Rattle.freestar_packet.specs.Layout.{packetBytes}
 use Rattle.freestar_packet.specs.Encode.{encode, inRoom}
 use Rattle.freestar_packet.proofs.Types.{fits-small}
