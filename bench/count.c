@@ -8,7 +8,8 @@
 #include <stdio.h>
 #include <stdlib.h>
 #include <string.h>
-#include <time.h>
+
+#include "calls.h"
 
 #ifdef PEER
 #include "peer.h"
@@ -36,19 +37,6 @@ static module_state used_module(void)
     return state;
 }
 
-static void print_bytes(const void *bytes, size_t count)
-{
-    for (size_t i = 0; i < count; i++)
-        printf(" %02X", ((const unsigned char *)bytes)[i]);
-}
-
-static double nanoseconds(void)
-{
-    struct timespec now;
-    clock_gettime(CLOCK_MONOTONIC, &now);
-    return 1e9 * (double)now.tv_sec + (double)now.tv_nsec;
-}
-
 int main(int count, char **words)
 {
     uint8_t block[LONGEST_BLOCK], response[RESPONSE];
@@ -69,10 +57,9 @@ int main(int count, char **words)
         done = EXECUTE(&state, block, size, response, sizeof response);
     double taken = nanoseconds() - start;
 
-    printf("refusal %u length %zu response", done.refusal, done.length);
-    print_bytes(response, sizeof response);
-    printf(" state");
-    print_bytes(&state, sizeof state);
+    printf("refusal %u length %zu", done.refusal, done.length);
+    print_bytes("response", response, sizeof response);
+    print_bytes("state", &state, sizeof state);
     printf("\n%.2f\n", taken / (double)calls);
     return 0;
 }

@@ -7,9 +7,9 @@
  * of the buffer. The second has the nanoseconds of a call. */
 
 #include <stdio.h>
-#include <stdlib.h>
 #include <string.h>
-#include <time.h>
+
+#include "calls.h"
 
 #ifdef PEER
 #include "coyote_peer.h"
@@ -92,10 +92,7 @@ static void export_charge(void)
                                   sizeof buffer);
 }
 
-static const struct operation {
-    const char *name;
-    void (*call)(void), (*print)(void);
-} operations[] = {
+static const struct operation operations[] = {
     {"decode_data", decode_data, print_packet},
     {"encode_data", encode_data, print_outcome},
     {"export_charge", export_charge, print_outcome},
@@ -104,42 +101,14 @@ static const struct operation {
     {"decode_damaged", decode_damaged, print_packet},
 };
 
-static const struct operation *find_operation(const char *name)
-{
-    for (size_t i = 0; i < sizeof operations / sizeof operations[0]; i++)
-        if (strcmp(operations[i].name, name) == 0) return &operations[i];
-    return NULL;
-}
-
 /* ---- The run -------------------------------------------------------------------------------- */
 
-static double nanoseconds(void)
-{
-    struct timespec now;
-    clock_gettime(CLOCK_MONOTONIC, &now);
-    return 1e9 * (double)now.tv_sec + (double)now.tv_nsec;
-}
+static void print_memory(void) { print_bytes("buffer", buffer, sizeof buffer); }
 
 int main(int count, char **words)
 {
-    long calls = count == 3 ? strtol(words[1], NULL, 10) : 0;
-    const struct operation *operation = count == 3 ? find_operation(words[2]) : NULL;
-    if (calls < 1 || operation == NULL) {
-        fprintf(stderr, "usage: count CALLS OPERATION\n");
-        return 2;
-    }
-
     fill_packets();
     memset(buffer, 0xEE, sizeof buffer);
-    double start = nanoseconds();
-    for (long i = 0; i < calls; i++)
-        operation->call();
-    double taken = nanoseconds() - start;
-
-    operation->print();
-    printf(" buffer");
-    for (size_t i = 0; i < sizeof buffer; i++)
-        printf(" %02X", buffer[i]);
-    printf("\n%.2f\n", taken / (double)calls);
-    return 0;
+    return run_operation(count, words, operations, sizeof operations / sizeof operations[0],
+                         print_memory);
 }

@@ -7,9 +7,9 @@
  * the buffer and of the settings afterwards. The second has the nanoseconds of a call. */
 
 #include <stdio.h>
-#include <stdlib.h>
 #include <string.h>
-#include <time.h>
+
+#include "calls.h"
 
 #ifdef PEER
 #include "freestar_peer.h"
@@ -57,13 +57,6 @@ static void print_outcome(void)
     printf("refusal %u length %zu", outcome.refusal, outcome.length);
 }
 
-static void print_bytes(const char *what, const void *bytes, size_t count)
-{
-    printf(" %s", what);
-    for (size_t i = 0; i < count; i++)
-        printf(" %02X", ((const unsigned char *)bytes)[i]);
-}
-
 /* ---- Operations ----------------------------------------------------------------------------- */
 
 static void execute(const uint8_t *block, size_t size)
@@ -86,10 +79,7 @@ static void encode_address(void)
     outcome = CALL(encode)(SET_ADDRESS, set_address + DATA_START, ADDRESSES, buffer, sizeof buffer);
 }
 
-static const struct operation {
-    const char *name;
-    void (*call)(void), (*print)(void);
-} operations[] = {
+static const struct operation operations[] = {
     {"execute_set_pan_id", execute_set_pan_id, print_outcome},
     {"execute_query_pan_id", execute_query_pan_id, print_outcome},
     {"execute_set_address", execute_set_address, print_outcome},
@@ -101,40 +91,17 @@ static const struct operation {
     {"encode_address", encode_address, print_outcome},
 };
 
-static const struct operation *find_operation(const char *name)
-{
-    for (size_t i = 0; i < sizeof operations / sizeof operations[0]; i++)
-        if (strcmp(operations[i].name, name) == 0) return &operations[i];
-    return NULL;
-}
-
 /* ---- The run -------------------------------------------------------------------------------- */
 
-static double nanoseconds(void)
+static void print_memory(void)
 {
-    struct timespec now;
-    clock_gettime(CLOCK_MONOTONIC, &now);
-    return 1e9 * (double)now.tv_sec + (double)now.tv_nsec;
+    print_bytes("buffer", buffer, sizeof buffer);
+    print_bytes("settings", &settings, sizeof settings);
 }
 
 int main(int count, char **words)
 {
-    long calls = count == 3 ? strtol(words[1], NULL, 10) : 0;
-    const struct operation *operation = count == 3 ? find_operation(words[2]) : NULL;
-    if (calls < 1 || operation == NULL) {
-        fprintf(stderr, "usage: count CALLS OPERATION\n");
-        return 2;
-    }
-
     memset(buffer, 0xEE, sizeof buffer);
-    double start = nanoseconds();
-    for (long i = 0; i < calls; i++)
-        operation->call();
-    double taken = nanoseconds() - start;
-
-    operation->print();
-    print_bytes("buffer", buffer, sizeof buffer);
-    print_bytes("settings", &settings, sizeof settings);
-    printf("\n%.2f\n", taken / (double)calls);
-    return 0;
+    return run_operation(count, words, operations, sizeof operations / sizeof operations[0],
+                         print_memory);
 }

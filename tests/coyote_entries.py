@@ -239,12 +239,3 @@ class Comparison(PacketCalls):
         """The same of an import: the number of a refusal, or input number and readout."""
         wanted = (expected, 0, 0) if isinstance(expected, int) else (0, *expected)
         self.same("a charge as written down", wanted, self.import_charge(block), block=block)
-
-    def writes(self, message, expected, buffer):
-        """The same of a writer: the number of a refusal, or the packet."""
-        if isinstance(expected, int):
-            wanted = expected, 0, buffer
-        else:
-            wanted = 0, len(expected), expected + buffer[len(expected) :]
-        came = self.reread(message, buffer)
-        self.same("a written packet as written down", wanted, came, message=message, buffer=buffer)

@@ -166,15 +166,6 @@ class Comparison(PacketCalls):
             self.same("data as written down", expected.data, block[3:-2], block=block)
         self.same("a message as written down", wanted, self.circle(block), block=block)
 
-    def writes(self, message, expected, buffer):
-        """The same of the writer: the number of a refusal, or the packet."""
-        if isinstance(expected, int):
-            wanted = expected, 0, buffer
-        else:
-            wanted = 0, len(expected), expected + buffer[len(expected) :]
-        came = self.reread(message, buffer)
-        self.same("a written message as written down", wanted, came, message=message, buffer=buffer)
-
     def steps(self, settings, block, expected, buffer, after=None):
         """The same of a step: the number of a refusal, or the answer; and the settings afterwards, if they
         are others. These are returned."""

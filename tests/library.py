@@ -217,6 +217,29 @@ class PacketCalls(Calls):
     def unchanged(self, entry, memory, **inputs):
         self.same(f"an input of {entry}", memory.given, memory.content(), **inputs)
 
+    def reread(self, message, buffer):
+        """Writes what a message says, and reads it back: each library's own. The refusal, length and buffer."""
+        raise NotImplementedError
+
+    def writes(self, message, expected, buffer):
+        """A writer whose outcome is written down: the number of a refusal, or the packet."""
+        if isinstance(expected, int):
+            wanted = expected, 0, buffer
+        else:
+            wanted = 0, len(expected), expected + buffer[len(expected) :]
+        came = self.reread(message, buffer)
+        self.same("what is written, as written down", wanted, came, message=message, buffer=buffer)
+
+    def run_all(self, checks, whole, seed, outcomes, types):
+        """Runs checks. If these are the whole, each entry had each of its outcomes, and accepted each of its types."""
+        self.run(checks, seed)
+        if whole:
+            check_seen("outcomes", outcomes, self.outcomes)
+            check_seen("types", types, self.accepted)
+            print_outcomes(outcomes, self.outcomes)
+        entries = {entry for entry, _ in self.outcomes}
+        print(f"{self.calls:,} calls of {len(entries)} entries agree")
+
 
 LEAST_SEEN = 100  # of each kind of call that a comparison counts
 

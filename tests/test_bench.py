@@ -15,6 +15,7 @@ print the same with the library and with the peer. The first difference ends the
 """
 
 import collections
+import functools
 import itertools
 import pathlib
 import random
@@ -741,10 +742,10 @@ FREESTAR_COUNTED = {
 
 def counting_programs(folder, library):
     """bench/LIBRARY_count.c with the peer and with the library."""
-    source, built = f"bench/{library}_count.c", sdk()
-    yield compiled(folder / f"{library}_count_by_peer", "-DPEER", source, f"bench/{library}_peer.c")
+    sources, built = (f"bench/{library}_count.c", "bench/calls.c"), sdk()
+    yield compiled(folder / f"{library}_count_by_peer", "-DPEER", *sources, f"bench/{library}_peer.c")
     include, archive = f"-I{built / 'include'}", built / "lib" / f"lib{library}.a"
-    yield compiled(folder / f"{library}_count_by_library", include, source, archive)
+    yield compiled(folder / f"{library}_count_by_library", include, *sources, archive)
 
 
 def counted_line(program, operation):
@@ -812,22 +813,14 @@ def compare_modules(folder, checks, whole):
         print(f"{module.calls} calls of the module of {name} and of the reference agree")
 
 
-def compare_coyote(folder, checks, whole):
-    peer = coyote_entries.Comparison(peer_of(folder, "coyote", coyote_entries.SIGNATURES))
+def compare_peer(library, entries, check_coverage, folder, checks, whole):
+    """Compares the peer of a library of packets with the reference of `entries`."""
+    peer = entries.Comparison(peer_of(folder, library, entries.SIGNATURES))
     for check in checks:
         check(peer, random.Random(SEED))
     if whole:
-        check_coyote_coverage(peer)
-    print(f"{peer.calls} calls of the C peer of the Coyote packets and of the reference agree")
-
-
-def compare_freestar(folder, checks, whole):
-    peer = freestar_entries.Comparison(peer_of(folder, "freestar", freestar_entries.SIGNATURES))
-    for check in checks:
-        check(peer, random.Random(SEED))
-    if whole:
-        check_freestar_coverage(peer)
-    print(f"{peer.calls} calls of the C peer of the Freestar messages and of the reference agree")
+        check_coverage(peer)
+    print(f"{peer.calls} calls of the C peer of the {library.capitalize()} library and of the reference agree")
 
 
 def compare_counted(folder, checks, whole):
@@ -838,8 +831,8 @@ def compare_counted(folder, checks, whole):
 PARTS = (
     (compare_logs, LOG_CHECKS),
     (compare_modules, MODULE_CHECKS),
-    (compare_coyote, COYOTE_CHECKS),
-    (compare_freestar, FREESTAR_CHECKS),
+    (functools.partial(compare_peer, "coyote", coyote_entries, check_coyote_coverage), COYOTE_CHECKS),
+    (functools.partial(compare_peer, "freestar", freestar_entries, check_freestar_coverage), FREESTAR_CHECKS),
     (compare_counted, COUNTED_CHECKS),
 )
 

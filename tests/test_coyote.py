@@ -36,7 +36,7 @@ from coyote_reference import (
     PACKET_LENGTH,
     PACKET_SUM,
 )
-from library import WRAPS, check_seen, filler, print_outcomes, run_test, with_byte
+from library import WRAPS, filler, run_test, with_byte
 from refusals import OWN
 
 SEED = 20240010
@@ -1067,14 +1067,7 @@ TYPES = {
 
 
 def main(checks, whole):
-    compare = Comparison(load_entries())
-    compare.run(checks, SEED)
-    if whole:
-        check_seen("outcomes", OUTCOMES, compare.outcomes)
-        check_seen("types", TYPES, compare.accepted)
-        print_outcomes(OUTCOMES, compare.outcomes)
-    entries = {entry for entry, _ in compare.outcomes}
-    print(f"{compare.calls:,} calls of {len(entries)} entries agree")
+    Comparison(load_entries()).run_all(checks, whole, SEED, OUTCOMES, TYPES)
 
 
 if __name__ == "__main__":

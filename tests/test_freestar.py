@@ -38,7 +38,7 @@ from freestar_reference import (
     PACKET_SUM,
     PAN_ID_OVER,
 )
-from library import WRAPS, check_seen, filler, print_outcomes, run_test, with_byte
+from library import WRAPS, filler, run_test, with_byte
 from refusals import OWN
 
 SEED = 20240011
@@ -1075,14 +1075,7 @@ TYPES = {"freestar_decode": SERVED, "freestar_encode": SERVED, "freestar_execute
 
 
 def main(checks, whole):
-    compare = Comparison(load_entries())
-    compare.run(checks, SEED)
-    if whole:
-        check_seen("outcomes", OUTCOMES, compare.outcomes)
-        check_seen("types", TYPES, compare.accepted)
-        print_outcomes(OUTCOMES, compare.outcomes)
-    entries = {entry for entry, _ in compare.outcomes}
-    print(f"{compare.calls:,} calls of {len(entries)} entries agree")
+    Comparison(load_entries()).run_all(checks, whole, SEED, OUTCOMES, TYPES)
 
 
 if __name__ == "__main__":
