@@ -204,21 +204,30 @@ damaged-left : step (after (delivery setChannel 5 ∷ [])) damaged ≡ after (de
 unfolding run byteSum fitsIn packetBytes readFrame decide answer stored validate resultOf step
 damaged-left = claims .refused-stores-none (delivery setChannel 5 ∷ []) damaged _ refl refl .1
 
+-- a message that neither touches nor stores the channel is apart from the message that sets it
+module _ (y : Delivery) where
+  besides-channel :
+      touches model (next model (cells three) (delivery setChannel 5)) y channel ≡ false
+      → storesIn model (next model (cells three) (delivery setChannel 5)) y channel ≡ false
+      → Apart model (cells three) (delivery setChannel 5) y
+  unfolding byteSum fitsIn packetBytes readFrame decide
+  besides-channel untouched unstored = record { first-stores = first; second-stores = second }
+    where
+      first : (c : Cell) → storesIn model (cells three) (delivery setChannel 5) c ≡ true → touches model (next model (cells three) (delivery setChannel 5)) y c ≡ false
+      first panId e = absurd (false≢true e)
+      first longAddress e = absurd (false≢true e)
+      first shortAddress e = absurd (false≢true e)
+      first channel e = untouched
+
+      second : (c : Cell) → storesIn model (next model (cells three) (delivery setChannel 5)) y c ≡ true → touches model (cells three) (delivery setChannel 5) c ≡ false
+      second panId e = refl
+      second longAddress e = refl
+      second shortAddress e = refl
+      second channel e = absurd (true≢false (sym e ∙ unstored))
+
 channel-and-pan-id : Apart model (cells three) (delivery setChannel 5) (delivery setPan 5)
 unfolding byteSum fitsIn packetBytes readFrame decide
-channel-and-pan-id = record { first-stores = first; second-stores = second }
-  where
-    first : (c : Cell) → storesIn model (cells three) (delivery setChannel 5) c ≡ true → touches model (next model (cells three) (delivery setChannel 5)) (delivery setPan 5) c ≡ false
-    first panId e = absurd (false≢true e)
-    first longAddress e = refl
-    first shortAddress e = refl
-    first channel e = refl
-
-    second : (c : Cell) → storesIn model (next model (cells three) (delivery setChannel 5)) (delivery setPan 5) c ≡ true → touches model (cells three) (delivery setChannel 5) c ≡ false
-    second panId e = refl
-    second longAddress e = refl
-    second shortAddress e = refl
-    second channel e = absurd (false≢true e)
+channel-and-pan-id = besides-channel (delivery setPan 5) refl refl
 
 module _ (rest : List Delivery) where
   swapped :
@@ -238,19 +247,7 @@ module _ (rest : List Delivery) where
 
 channel-and-query : Apart model (cells three) (delivery setChannel 5) (delivery askPan 7)
 unfolding byteSum fitsIn packetBytes readFrame decide
-channel-and-query = record { first-stores = first; second-stores = second }
-  where
-    first : (c : Cell) → storesIn model (cells three) (delivery setChannel 5) c ≡ true → touches model (next model (cells three) (delivery setChannel 5)) (delivery askPan 7) c ≡ false
-    first panId e = absurd (false≢true e)
-    first longAddress e = refl
-    first shortAddress e = refl
-    first channel e = refl
-
-    second : (c : Cell) → storesIn model (next model (cells three) (delivery setChannel 5)) (delivery askPan 7) c ≡ true → touches model (cells three) (delivery setChannel 5) c ≡ false
-    second panId e = refl
-    second longAddress e = refl
-    second shortAddress e = refl
-    second channel e = absurd (false≢true e)
+channel-and-query = besides-channel (delivery askPan 7) refl refl
 
 exchanged-with-query : (rest : List Delivery) → after (delivery askPan 7 ∷ delivery setChannel 5 ∷ rest) ≡ after (delivery setChannel 5 ∷ delivery askPan 7 ∷ rest)
 unfolding run
