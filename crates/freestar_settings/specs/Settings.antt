@@ -45,13 +45,14 @@ stored s type bytes =
     (cond (eqb type setAddress) (settings (s .«pan_id») (take 8 bytes) (part 8 2 bytes) (s .channel))
     (cond (eqb type setChannel) (settings (s .«pan_id») (s .«long_address») (s .«short_address») (getD bytes 0 0)) s))
 
--- 24, 25, 26, then 27 for a type that the host does not send or other data, then 28 "in message or record"
+-- 27 for a type that the host does not send, or other data; then 28 "in message or record"
 abbrev pub validateMessage : Settings → (bytes : List ℕ) → Message → Result Message
 validateMessage s bytes m =
     cond (fitsIn requests (m .kind) (length bytes))
     (cond (panIdHolds (m .kind) bytes && panIdFits (s .«pan_id»)) (accepted m) (refused panIdOver))
     (refused packetContent)
 
+-- 24, 25, 26 come before these
 unfoldable pub validate : Settings → (block : List ℕ) → Result Message
 validate s block = andThen (readFrame block) (validateMessage s (dataIn block))
 
