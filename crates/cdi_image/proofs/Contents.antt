@@ -16,7 +16,8 @@ use Rattle.cdi_state.specs.State.{inputBytes, slotBytes, inputIn, inputAt, noIn
 use Rattle.cdi_state.proofs.Arrays.{below-two}
 use Rattle.cdi_image.specs.Image.{settings11To15, contentsOf, contentsSize, settingsIn, slotsIn, storedIn}
 use Rattle.cdi_image.proofs.Cut.{cut, cutEnd, cut-flatten, flatten-cut, flatten-length, piece-length}
-use Rattle.cdi_image.proofs.Rows.{FourLong, input-written, slots-length, slots-read, slots-written}
+use Rattle.cdi_state.proofs.Rows.{input-written}
+use Rattle.cdi_image.proofs.Rows.{FourLong, slots-length, slots-read, slots-written}
 
 abbrev partSizes : List ℕ
 partSizes = 17 ∷ 3 ∷ 4 ∷ 4 ∷ 5 ∷ 5 ∷ 5 ∷ 200 ∷ 1 ∷ []

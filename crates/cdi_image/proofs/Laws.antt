@@ -10,7 +10,8 @@ use Rattle.refusal.specs.Refusal.{accepted}
 use Rattle.refusal.proofs.Results.{then-refused}
 use Rattle.cdi_state.specs.declared.Stored.{Stored}
 use Rattle.cdi_state.specs.declared.ModuleState.{ModuleState}
-use Rattle.cdi_valid.specs.Valid.{validSettings, validSlots, validStored, validFlags, isValid}
+use Rattle.cdi_item.specs.Values.{acceptedFlags}
+use Rattle.cdi_valid.specs.Valid.{validSettings, validSlots, validStored, isValid}
 use Rattle.cdi_store.specs.Store.{stateAtPowerUp}
 use Rattle.cdi_image.specs.Image.{mark, version1, headSize, contentsOf, imageOf, saved, storedIn, withStored}
 use Rattle.cdi_image.specs.Laws.{Reloaded, SaveThenLoad, AfterLoad, LoadThenSave}
@@ -25,7 +26,7 @@ first a b e = and-eq-true-iff a b .0 e .0
 -- ---- Save, then Load
 stored-valid : (s : ModuleState) → isValid s ≡ true → validStored (s .stored) ≡ true
 unfolding isValid
-stored-valid s v = first (validStored (s .stored)) (validSettings (s .working .settings)) (first _ (validFlags (s .live .flags)) v)
+stored-valid s v = first (validStored (s .stored)) (validSettings (s .working .settings)) (first _ (acceptedFlags (s .live .flags)) v)
 
 pub save-then-load : SaveThenLoad
 unfolding saved

@@ -1,5 +1,4 @@
--- A row of five bytes as a slot or as an input, and so many slots one behind the other: each is read as what was written, and written
--- as what was read.
+-- A slot, and so many slots one behind the other: each is read as what was written, and written as what was read.
 -- Assumes nothing.
 use Prim.Native.Nat.{ℕ, zero, suc, _+_, _*_, _<_, suc-le-suc}
 use mathlib.Core.Path.{_≡_, refl, sym, ap, _∙_}
@@ -7,21 +6,13 @@ use mathlib.Core.List.{List, [], _∷_, _++_, flatMap}
 use native.Mathlib.Omega.{arith}
 use native.Mathlib.Nat.{zero-lt-suc}
 use lib.ListN.{length, getD, take, drop, length-append, length-drop, take-append-drop}
-use lib.Seq.{length-take-le, take-all, take-suc, take-at, drop-at, getD-at}
+use lib.Seq.{length-take-le, take-at, drop-at, getD-at}
 use Rattle.cdi_state.specs.declared.Slot.{Slot}
-use Rattle.cdi_state.specs.State.{inputBytes, slotBytes, noSlot, slotIn, inputIn}
+use Rattle.cdi_state.specs.State.{slotBytes, noSlot, slotIn}
+use Rattle.cdi_state.proofs.Rows.{slot-written}
 use Rattle.cdi_image.specs.Image.{slotsIn}
 
 -- ---- one row
-pub input-written : (row : List ℕ) → length row ≡ 5 → inputBytes (inputIn row) ≡ row
-input-written [] h = absurd (omega arith)
-input-written (a ∷ []) h = absurd (omega arith)
-input-written (a ∷ b ∷ []) h = absurd (omega arith)
-input-written (a ∷ b ∷ c ∷ row) h = refl
-
-slot-written : (row : List ℕ) → length row ≡ 5 → slotBytes (slotIn row) ≡ row
-slot-written row h = sym (take-suc row 4 0 (omega (arith, h))) ∙ take-all 5 row (omega (arith, h))
-
 slot-read : (x : Slot) → length (x .address) ≡ 4 → slotIn (slotBytes x) ≡ x
 slot-read x h =
     let address = take-at (x .address) (x .mask ∷ []) 4 h in

@@ -119,7 +119,7 @@ module _ (s : Cells) (a b : Step) (p q : List ℕ) where
 
 -- ---- computed
 -- what passes at each cell of a list passes at a cell that is in it
-at-cell : (ok : Cell → Bool) (l : List Cell) (c : Cell) → all ok l ≡ true → isIn c l ≡ true → ok c ≡ true
+pub at-cell : (ok : Cell → Bool) (l : List Cell) (c : Cell) → all ok l ≡ true → isIn c l ≡ true → ok c ≡ true
 at-cell ok [] c e is = cc
 at-cell ok (d ∷ l) c e is =
     let both = and-eq-true-iff (ok d) (all ok l) .0 e in

@@ -52,7 +52,7 @@ Checked eraseAll = Unit {0}
 
 -- ---- reads
 -- the copy that Read gives is a cell
-read-cell : (k : Key) → isKey k ≡ true → isCell (copyOf (readCopy k) k) ≡ true
+pub read-cell : (k : Key) → isKey k ≡ true → isCell (copyOf (readCopy k) k) ≡ true
 read-cell (setting s) e = refl
 read-cell (input n) e = and-eq-true-iff _ _ .1 (e, refl)
 read-cell (slot i) e = e

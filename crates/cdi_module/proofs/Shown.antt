@@ -23,7 +23,8 @@ use Rattle.cdi_model.specs.Model.{shownSingle, statusOf, actionValue}
 use Rattle.cdi_model.proofs.Keys.{isSource, source-there, row-named}
 use Rattle.cdi_module.specs.Machine.{settingHeld, singleHeld, cells}
 
-name-agrees : (l : List ℕ) → nameShown l ≡ upToZero l
+-- the two texts of what is shown of a name
+pub name-agrees : (l : List ℕ) → nameShown l ≡ upToZero l
 unfolding nameShown upToZero
 name-agrees [] = refl
 name-agrees (b ∷ bs) = ap (λ (l : List ℕ). cond (eqb b 0) (b ∷ []) (b ∷ l)) (name-agrees bs)

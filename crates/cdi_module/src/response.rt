@@ -6,21 +6,15 @@ ghost use lib.ListN.{length, take};
 ghost use Rattle.logic.specs.Written.{Writes};
 ghost use Rattle.cdi_frame.specs.Layout.{responseFrame};
 ghost use Rattle.cdi_command.specs.Payload.{responsePayload, ackResponse, noError, responseBufferMin};
+use cdi_command::ACK_RESPONSE;
+use cdi_command::NO_ERROR;
 use cdi_command::READ;
 use cdi_command::READ_NV;
+use cdi_command::READ_NV_RESPONSE;
+use cdi_command::READ_RESPONSE;
 use cdi_frame::LENGTH_BASE;
 use cdi_frame::START;
 use cdi_frame::SYNC;
-
-// The first byte of a response's payload: to Read, to Read NV, to every other command (001's ACK).
-const READ_RESPONSE: u8 = 0xC1;
-
-const READ_NV_RESPONSE: u8 = 0xC2;
-
-const ACK_RESPONSE: u8 = 0xC0;
-
-// What stands behind ACK_RESPONSE where the command is accepted.
-const NO_ERROR: u8 = 0x00;
 
 // Writes bytes over the front of `out`.
 fn put(source: &[u8], out: &mut [u8]) -> usize

@@ -1,14 +1,10 @@
 -- Document 01, "Items", the valid state (01's "sound"). What an item accepts stands in the item list's crate alone.
-use Prim.Native.Nat.{ℕ}
 use mathlib.Core.List.{List, [], _∷_}
 use mathlib.Core.Bool.{Bool, _&&_}
-use lib.Bits.{bitAnd}
-use lib.Dec.{eqb, leb}
 use lib.ListN.{getD}
 use Rattle.logic.specs.Lists.{all, hasZero}
 use Rattle.cdi_item.specs.Items.{txPower, controlSource, messageSelect, analogInput, pairedModule}
-use Rattle.cdi_item.specs.Bits.{modeMask, modeMax, flagsZero}
-use Rattle.cdi_item.specs.Values.{acceptedValue}
+use Rattle.cdi_item.specs.Values.{acceptedValue, acceptedFlags}
 use Rattle.cdi_state.specs.declared.Slot.{Slot}
 use Rattle.cdi_state.specs.declared.AnalogInput.{AnalogInput}
 use Rattle.cdi_state.specs.declared.Settings.{Settings}
@@ -38,10 +34,6 @@ validSlots slots = all validSlot slots
 abbrev pub validStored : Stored → Bool
 validStored t = (hasZero (t .name) && validSettings (t .settings)) && validSlots (t .slots)
 
--- the mode, bits 0 to 2, is at most 4, and bits 3, 6 and 7 are zero
-abbrev pub validFlags : ℕ → Bool
-validFlags flags = leb (bitAnd flags modeMask) modeMax && eqb (bitAnd flags flagsZero) 0
-
 -- the stored part is valid, the working settings hold accepted values, and so do the flags
 unfoldable pub isValid : ModuleState → Bool
-isValid s = (validStored (s .stored) && validSettings (s .working .settings)) && validFlags (s .live .flags)
+isValid s = (validStored (s .stored) && validSettings (s .working .settings)) && acceptedFlags (s .live .flags)

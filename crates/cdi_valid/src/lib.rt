@@ -4,7 +4,7 @@ ghost use mathlib.Core.Path.{_≡_};
 ghost use mathlib.Core.List.{[], _∷_};
 ghost use Rattle.logic.specs.Lists.{hasZero};
 ghost use Rattle.cdi_item.specs.Values.{acceptedValue};
-ghost use Rattle.cdi_valid.specs.Valid.{validInput, validSettings, validSlot, validSlots, validStored, validFlags, isValid};
+ghost use Rattle.cdi_valid.specs.Valid.{validInput, validSettings, validSlot, validSlots, validStored, isValid};
 use cdi_item::NAME_LENGTH;
 use cdi_item::SLOT_COUNT;
 use cdi_item::Value;
@@ -14,13 +14,6 @@ use cdi_state::ModuleState;
 use cdi_state::Settings;
 use cdi_state::Slot;
 use cdi_state::Stored;
-
-// The flags' bits of the mode, and those that are always zero.
-const MODE_MASK: u8 = 0x07;
-
-const MODE_MAX: u8 = 4;
-
-const FLAGS_ZERO: u8 = 0xC8;
 
 // Whether a 00 is among the bytes of a name. None ends the loop early, as with the slots below.
 fn has_zero(name: [u8; NAME_LENGTH]) -> bool
@@ -91,12 +84,6 @@ fn are_valid_settings(settings: Settings) -> bool
         & is_valid_input(second)
 }
 
-fn are_valid_flags(flags: u8) -> bool
-    ensures { λ r. ⌜ r ≡ validFlags flags ⌝ }
-{
-    (flags & MODE_MASK <= MODE_MAX) & (flags & FLAGS_ZERO == 0)
-}
-
 // Whether the stored part of a state is valid.
 fn is_valid_stored(stored: Stored) -> bool
     ensures { λ r. ⌜ r ≡ validStored stored ⌝ }
@@ -112,5 +99,5 @@ pub fn is_valid(state: ModuleState) -> bool
 {
     is_valid_stored(state.stored)
         & are_valid_settings(state.working.settings)
-        & are_valid_flags(state.live.flags)
+        & cdi_item::accepts_flags(state.live.flags)
 }

@@ -10,15 +10,13 @@ ghost use Rattle.cdi_item.specs.Items.{rowLength};
 ghost use Rattle.cdi_value.specs.Value.{nameShown, settingValue, statusShown, plainValue, rowValue, valueInto, valueMax, valueRoom, Shows};
 use cdi_command::Command;
 use cdi_command::Index;
+use cdi_item::EVENT_FLAG;
 use cdi_item::NAME_LENGTH;
 use cdi_item::code;
 use cdi_state::HardwareSelection;
 use cdi_state::ModuleState;
 use cdi_state::Settings;
 use cdi_state::Stored;
-
-// Status bit 7: an event is in the interrupt mask.
-const EVENT_FLAG: u8 = 0x80;
 
 // The control source's bits that take power, line mask and latch mask from the settings and not from the hardware.
 const POWER_FROM_SETTING: u8 = 0x01;

@@ -11,12 +11,12 @@ is-valid-stored-requires c κs = search needs
 are-valid-settings-requires : tie.Need-are-valid-settings-requires
 are-valid-settings-requires c κs = search needs
 
-are-valid-flags-requires : tie.Need-are-valid-flags-requires
-are-valid-flags-requires c κs = search needs
+accepts-flags-requires : tie.Need-accepts-flags-requires
+accepts-flags-requires c κs = search needs
 
 returns : tie.Need-returns
 unfolding isValid
-returns c = rw (c .before .before .is-valid-stored .ensures, c .before .are-valid-settings .ensures, c .are-valid-flags .ensures)
+returns c = rw (c .before .before .is-valid-stored .ensures, c .before .are-valid-settings .ensures, c .accepts-flags .ensures)
 
 pub is-valid-spec : {M : Type 1} → statement M
 is-valid-spec =
@@ -24,5 +24,5 @@ is-valid-spec =
     (tie.spec
     is-valid-stored-requires
     are-valid-settings-requires
-    are-valid-flags-requires
+    accepts-flags-requires
     returns)
