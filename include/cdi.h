@@ -3,9 +3,9 @@
  *
  * The controller keeps one cdi_module_state for each module. cdi_execute answers a command block as
  * the module does. cdi_power_up does what the module does when power comes on. cdi_save writes what
- * survives a loss of power to an image, and cdi_load brings it back. cdi_encode_command is for the
- * host: it writes command blocks. cdi_readout and cdi_percent turn an analog input's readings into
- * a charge.
+ * survives a loss of power to an image, and cdi_load brings it back. Two functions are for the host:
+ * cdi_encode_command writes command blocks, and cdi_decode_response reads the responses. cdi_readout
+ * and cdi_percent turn an analog input's readings into a charge.
  *
  * For every function:
  *
@@ -67,7 +67,8 @@ enum {
     CDI_REFUSAL_READING_OVER = 16,          /* a reading is over CDI_READING_MAX */
     CDI_REFUSAL_IMAGE_LENGTH = 17,          /* the image does not have CDI_IMAGE_SIZE bytes */
     CDI_REFUSAL_IMAGE_MARK = 18,            /* the image does not begin with the mark SWB */
-    CDI_REFUSAL_IMAGE_VERSION = 19          /* the image's version is not 1 */
+    CDI_REFUSAL_IMAGE_VERSION = 19,         /* the image's version is not 1 */
+    CDI_REFUSAL_NO_SUCH_RESPONSE = 23       /* no module in a valid state responds so to the command */
 };
 
 /* ---- Commands and items ------------------------------------------------------------------------
@@ -227,6 +228,20 @@ typedef struct {
     size_t length;
 } cdi_outcome;
 
+/*
+ * Of cdi_decode_response: the refusal or 0, and where the value is: `length` bytes from
+ * response[start] on. With NO_SUCH_RESPONSE, `place` is that of the first wrong byte, counted from 0
+ * in the response's payload: the byte is response[3 + place]. If the payload is right so far but ends
+ * too early, `place` is its length, and response[3 + place] is past its end. Fields that do not apply
+ * are 0.
+ */
+typedef struct {
+    uint8_t refusal;
+    size_t place;
+    size_t start;
+    size_t length;
+} cdi_decoded;
+
 /* Of cdi_readout: the refusal or 0, and the readout, 0 on a refusal. */
 typedef struct {
     uint8_t refusal;
@@ -290,6 +305,20 @@ uint8_t cdi_load(cdi_module_state *state, const uint8_t *image, size_t image_len
  */
 cdi_outcome cdi_encode_command(const uint8_t *payload, size_t payload_len, size_t wake,
                                uint8_t *frame, size_t frame_len);
+
+/*
+ * Reads the response to a command. It reads the payload that was sent and the response, which is
+ * exactly one frame without wake bytes, and writes no memory. It accepts a response exactly if a module
+ * in some valid state gives it to that command, and returns where the value is. After Read and Read NV
+ * the value is what follows the item and its index; a name's closing 0x00 is part of it. After any
+ * other command the value is the echo, which is the payload that was sent. In any other response, the
+ * first wrong byte is the first that no such response has after the bytes before it. Refusals, in
+ * this order: for the payload that was sent, from ENDS_EARLY on as for cdi_encode_command; for the
+ * response, ENDS_EARLY, BAD_START (also for a wake byte), BAD_LENGTH_BYTE or TRAILING_BYTES,
+ * whichever is met first from the left; NO_SUCH_RESPONSE.
+ */
+cdi_decoded cdi_decode_response(const uint8_t *sent, size_t sent_len,
+                                const uint8_t *response, size_t response_len);
 
 /* ---- Analog inputs ----------------------------------------------------------------------------- */
 
@@ -360,6 +389,11 @@ CDI_HOLDS(sizeof(size_t) == 8);
 CDI_HOLDS(sizeof(cdi_outcome) == 16);
 CDI_HOLDS(offsetof(cdi_outcome, refusal) == 0);
 CDI_HOLDS(offsetof(cdi_outcome, length) == 8);
+CDI_HOLDS(sizeof(cdi_decoded) == 32);
+CDI_HOLDS(offsetof(cdi_decoded, refusal) == 0);
+CDI_HOLDS(offsetof(cdi_decoded, place) == 8);
+CDI_HOLDS(offsetof(cdi_decoded, start) == 16);
+CDI_HOLDS(offsetof(cdi_decoded, length) == 24);
 CDI_HOLDS(sizeof(cdi_readout_result) == 4);
 CDI_HOLDS(offsetof(cdi_readout_result, refusal) == 0);
 CDI_HOLDS(offsetof(cdi_readout_result, readout) == 2);

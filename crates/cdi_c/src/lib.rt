@@ -8,9 +8,11 @@ ghost use Rattle.analog.specs.Analog.{readoutOf, percentOf};
 ghost use Rattle.cdi_state.specs.State.{factoryState};
 ghost use Rattle.cdi_model.specs.Step.{request, command, powerUp, poweredUp, responded};
 ghost use Rattle.cdi_host.specs.Encode.{encodeCommand};
+ghost use Rattle.cdi_decode.specs.Decode.{decodeResponse, decodedFields};
 ghost use Rattle.cdi_module.specs.Module.{step, resultOf};
 ghost use Rattle.cdi_image.specs.Image.{saved, loaded, loadedAs};
 use analog::ReadoutResult;
+use cdi_decode::Decoded;
 use cdi_state::ModuleState;
 use refusal::Outcome;
 
@@ -70,6 +72,14 @@ pub extern "C" fn cdi_encode_command(payload: &[u8], wake: usize, frame: &mut [u
         × (now (frame .exit) ≡ bufferAfter (encodeCommand (now (payload .entry)) wake (length (now (frame .entry)))) (now (frame .entry))) ⌝ }
 {
     cdi_host::encode_command(payload, wake, frame)
+}
+
+// Reads a block as the module's response to a payload that was sent.
+#[no_mangle]
+pub extern "C" fn cdi_decode_response(sent: &[u8], response: &[u8]) -> Decoded
+    ensures { λ r. ⌜ r ≡ decodedFields (decodeResponse (now (sent .entry)) (now (response .entry))) ⌝ }
+{
+    cdi_decode::decode_response(sent, response)
 }
 
 // The readout of readings.

@@ -1,0 +1,12 @@
+pub mod First
+pub mod Zeros
+pub mod Shapes
+pub mod Rules
+pub mod Names
+pub mod Eights
+pub mod Heads
+pub mod Accepted
+pub mod Wholes
+pub mod Payloads
+pub mod Ways
+pub mod Commands
