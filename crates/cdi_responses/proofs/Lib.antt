@@ -1,0 +1,11 @@
+pub mod Fit
+pub mod State
+pub mod Sources
+pub mod Status
+pub mod Held
+pub mod Exchange
+pub mod Shown
+pub mod Values
+pub mod Payloads
+pub mod Theorem
+pub mod Blocks
