@@ -15,6 +15,7 @@ from states import STATE, STATE_SIZE, changed, first_difference, first_place, pa
 
 # Each entry's result and arguments. A state, like any memory, is handed over by its address.
 READOUT_RESULT = struct(refusal=BYTE, readout=ctypes.c_uint16)
+DECODED = struct(refusal=BYTE, place=SIZE, start=SIZE, length=SIZE)
 SIGNATURES = {
     "cdi_factory": (STATE, ()),
     "cdi_execute": (OUTCOME, (POINTER, POINTER, SIZE, POINTER, SIZE)),
@@ -22,6 +23,7 @@ SIGNATURES = {
     "cdi_save": (OUTCOME, (POINTER, POINTER, SIZE)),
     "cdi_load": (BYTE, (POINTER, POINTER, SIZE)),
     "cdi_encode_command": (OUTCOME, (POINTER, SIZE, SIZE, POINTER, SIZE)),
+    "cdi_decode_response": (DECODED, (POINTER, SIZE, POINTER, SIZE)),
     "cdi_readout": (READOUT_RESULT, (POINTER, SIZE, ctypes.c_int16)),
     "cdi_percent": (BYTE, (ctypes.c_uint16,)),
 }
@@ -60,6 +62,7 @@ class Comparison(Calls):
     def __init__(self, library):
         super().__init__(library)
         self.state = Memory(STATE_SIZE, odd=True)
+        self.sent = Memory(140_000, odd=True)
         self.outcomes = collections.Counter()  # calls, by entry and refusal
         self.accepted = collections.Counter()  # accepted blocks, by command and item
 
@@ -178,6 +181,22 @@ class Comparison(Calls):
         self.agree("cdi_encode_command", expected, came, payload=payload, wake=wake, frame=frame)
         return refusal, length, buffer
 
+    def decode(self, sent, response):
+        result = self.library.cdi_decode_response(
+            self.sent.give(sent), len(sent), self.input.give(response), len(response)
+        )
+        decoded = reference.decode_response(sent, response)
+        fields = result.refusal, result.place, result.start, result.length
+        expected = {"refusal": decoded.refusal, "fields": decoded, "sent": sent, "response": response}
+        came = {
+            "refusal": result.refusal,
+            "fields": fields,
+            "sent": self.sent.content(),
+            "response": self.input.content(),
+        }
+        self.agree("cdi_decode_response", expected, came, sent=sent, response=response)
+        return decoded
+
     def readout(self, readings, offset):
         given = b"".join([reading.to_bytes(2, sys.byteorder) for reading in readings])
         result = self.library.cdi_readout(self.input.give(given), len(readings), offset)
@@ -230,6 +249,12 @@ class Comparison(Calls):
         after, came = self.load(state, image)
         self.same("a closed load", refusal, came, state=packed(state), image=image)
         self.same_state(changed(state, changes or {}), after, state=packed(state), image=image)
+
+    def literal_decode(self, sent, response, wanted):
+        """A response for which what the reader returns is written down: refusal, place, start, length."""
+        sent, response = bytes.fromhex(sent), bytes.fromhex(response)
+        came = self.decode(sent, response)
+        self.same("a closed reading", wanted, tuple(came), sent=sent, response=response)
 
     def same_state(self, wanted, came, **inputs):
         if wanted != came:

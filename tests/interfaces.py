@@ -1,6 +1,6 @@
 """The C SDK as it was agreed with the controllers: of each library the files, the header's numbers, structs and functions, and what
-it calls; of each example what it prints. The numbers are those of the documents: 01 for the CDI, 003 and 02's Ask 10 for Coyote, 004
-and 02's Ask 11 for Freestar.
+it calls; of each example what it prints. The numbers are those of the documents: 01 and 02's Ask 1 for the CDI, 003 and 02's Ask 10
+for Coyote, 004 and 02's Ask 11 for Freestar.
 """
 
 import collections
@@ -77,6 +77,7 @@ CDI = Interface(
         "cdi_live": states.LIVE,
         "cdi_module_state": states.STATE,
         "cdi_outcome": OUTCOME,
+        "cdi_decoded": entries.DECODED,
         "cdi_readout_result": entries.READOUT_RESULT,
     },
     functions="""
@@ -86,6 +87,7 @@ uint8_t cdi_power_up(cdi_module_state *state);
 cdi_outcome cdi_save(const cdi_module_state *state, uint8_t *image, size_t image_len);
 uint8_t cdi_load(cdi_module_state *state, const uint8_t *image, size_t image_len);
 cdi_outcome cdi_encode_command(const uint8_t *payload, size_t payload_len, size_t wake, uint8_t *frame, size_t frame_len);
+cdi_decoded cdi_decode_response(const uint8_t *sent, size_t sent_len, const uint8_t *response, size_t response_len);
 cdi_readout_result cdi_readout(const uint16_t *readings, size_t count, int16_t offset);
 uint8_t cdi_percent(uint16_t readout);
 """,
@@ -180,12 +182,21 @@ EXAMPLES = (
         """\
 block      80 FF FF 55 83 04 15 06
 response   80 55 85 C0 00 04 15 06
+echo       04 15 06
 block      80 FF FF 55 88 04 16 02 05 02 01 00 00
 response   80 55 8A C0 00 04 16 02 05 02 01 00 00
+echo       04 16 02 05 02 01 00 00
 block      80 FF FF 55 83 02 13 EC
 response   80 55 85 C0 00 02 13 EC
+echo       02 13 EC
 encode     refused 12
+block      80 FF FF 55 83 01 16 02
+response   80 55 88 C1 16 02 05 02 01 00 00
+value      05 02 01 00 00
 readout    57016 is 87 percent
+block      80 FF FF 55 82 01 15
+response   80 55 83 C1 15 06
+decode     refused 23 at byte 2
 image      249 bytes, mark SWB
 loaded     message select 6, power 0 dBm
 load       refused 19

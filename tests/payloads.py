@@ -125,6 +125,27 @@ def random_value(rng, item):
     return rng.randbytes(known.value_bytes if known else 1)
 
 
+def accepted_value(rng, item):
+    while True:
+        value = random_value(rng, item)
+        if reference.accepts(item, value):
+            return value
+
+
+# The indexes that the indexed items have.
+ALL_INDEXES = {0x16: (1, 2), 0x18: range(40)}
+
+
+def accepted_payloads(rng, indexes=ALL_INDEXES):
+    """Every permitted command, with every index that its item has, or some of them, and with an accepted
+    value if it takes one."""
+    for command, item in sorted(permitted_commands(), key=str):
+        start = bytes([command]) if item is None else bytes([command, item])
+        for index in indexes.get(item, (None,)):
+            payload = start if index is None else start + bytes([index])
+            yield payload + (accepted_value(rng, item) if command in (WRITE, PROGRAM) else b"")
+
+
 def likely_payload(rng):
     """A payload that is mostly accepted and often concerns a cell that others concern too."""
     if rng.random() < 0.01:

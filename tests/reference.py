@@ -1,8 +1,8 @@
-"""An independent implementation of document 01, to hold the project's code against.
+"""An independent implementation of document 01 and of document 02's Ask 1, to hold the project's code
+against.
 
-It is written from the paper alone and laid out by the paper's sections. Every function is pure,
-over bytes, whole numbers and tuples of them. A refusal is given as its number; 0 is
-accepted.
+It is written from the papers alone and laid out by the first paper's sections. Every function is
+pure, over bytes, whole numbers and tuples of them. A refusal is given as its number; 0 is accepted.
 """
 
 import functools
@@ -30,6 +30,8 @@ READING_OVER = 16
 IMAGE_LENGTH = 17
 IMAGE_MARK = 18
 IMAGE_VERSION = 19
+# 02, Ask 1
+NO_SUCH_RESPONSE = 23
 
 # ---- 01, "Frame" -----------------------------------------------------------------------------
 
@@ -47,7 +49,7 @@ SET_DEFAULT = 0x81
 ERASE_ALL_ADDRESSES = 0x82
 
 
-def read_frame(block):
+def read_frame(block, most_wakes=MOST_WAKES):
     """Refusal, payload's start and payload's length of a block that must be exactly one frame.
 
     01, "Frame"; numbers 3 to 6 go by the first byte that is wrong or missing.
@@ -61,7 +63,7 @@ def read_frame(block):
     wakes = 0
     while at < len(block) and block[at] == WAKE:
         wakes += 1
-        if wakes > MOST_WAKES:
+        if wakes > most_wakes:
             return BAD_START, 0, 0
         at += 1
     if at == len(block):
@@ -143,14 +145,16 @@ def accepts_message_select(value):
     return 0 <= value[0] <= 6
 
 
+# 01, "Item 16".
+CHANNELS = frozenset([0x04, 0x05, 0x06, 0x07, 0xFE, 0xFF])
+READINGS_AVERAGED = frozenset(range(1, 17))
+REFERENCES = frozenset([0, 1])
+
+
 def accepts_analog_input(value):
     """01, "Item 16": channel, readings averaged, reference, then an offset of any value."""
     channel, readings, reference = value[:3]
-    return (
-        channel in (0x04, 0x05, 0x06, 0x07, 0xFE, 0xFF)
-        and 1 <= readings <= 16
-        and reference in (0, 1)
-    )
+    return channel in CHANNELS and readings in READINGS_AVERAGED and reference in REFERENCES
 
 
 def accepts_slot(value):
@@ -520,6 +524,113 @@ def encode_command(payload, wake, frame):
     prefix = [FRAME_START] + wake * [WAKE] + [WAKES_END, LENGTH_BASE + len(payload)]
     written = bytes(prefix) + payload
     return ACCEPTED, len(written), written + frame[len(written) :]
+
+
+# ---- 02, Ask 1 (the answer reader) -----------------------------------------------------------
+
+# A set of byte strings is a list of forms. A form has, for each place of a string, the bytes that can
+# be there; the set has each string that fits one of its forms.
+ANY = frozenset(range(256))
+ZERO = frozenset([0x00])
+NOT_ZERO = ANY - ZERO
+
+
+def fixed(content):
+    """The form that one string alone fits."""
+    return tuple([frozenset([byte]) for byte in content])
+
+
+def accepted_bytes(item):
+    """The accepted values of an item of one byte."""
+    return frozenset([byte for byte in ANY if accepts(item, bytes([byte]))])
+
+
+def name_forms():
+    """01, "Items", row 01: 17 stored bytes, of which one is 00, up to and with the first 00."""
+    return [before * (NOT_ZERO,) + (ZERO,) for before in range(17)]
+
+
+def slot_forms():
+    """01, "Item 18": an empty slot; or one of the four address bytes is the first that isn't 00, and
+    what comes after it is free."""
+    used = [at * (ZERO,) + (NOT_ZERO,) + (4 - at) * (ANY,) for at in range(4)]
+    return [5 * (ZERO,), *used]
+
+
+def status_forms():
+    """01, "Item 23": valid flags; bit 7 is free, since the events and item 25 are. The other three
+    bytes are free, since the hardware's values are, and item 14 can leave all three to it."""
+    flags = frozenset([byte for byte in ANY if is_valid_flags(byte & 0x7F)])
+    return [(flags, ANY, ANY, ANY)]
+
+
+def value_forms(item):
+    """The values that an item has in the valid states. Both copies of 13 to 16 hold accepted values;
+    nothing is asked of the items without a rule."""
+    if item == 0x01:
+        return name_forms()
+    if item in (0x13, 0x14, 0x15):
+        return [(accepted_bytes(item),)]
+    if item == 0x16:
+        return [(CHANNELS, READINGS_AVERAGED, REFERENCES, ANY, ANY)]
+    if item == 0x18:
+        return slot_forms()
+    if item == 0x23:
+        return status_forms()
+    return [ITEMS[item].value_bytes * (ANY,)]
+
+
+@functools.lru_cache(maxsize=256)  # a payload is tried with many responses
+def possible_responses(sent):
+    """The payloads that a module in a valid state can answer an accepted one with, and where in them
+    the value or the echo starts."""
+    if sent[0] not in (READ, READ_NV):
+        return [fixed(bytes([ACKNOWLEDGED, 0x00]) + sent)], 2
+    head = bytes([READ_RESPONSE if sent[0] == READ else READ_NV_RESPONSE]) + sent[1:]
+    return [fixed(head) + value for value in value_forms(sent[1])], len(head)
+
+
+def fitting(form, payload):
+    """How many bytes of a payload, from the first on, fit a form."""
+    for place, (byte, possible) in enumerate(zip(payload, form)):
+        if byte not in possible:
+            return place
+    return min(len(form), len(payload))
+
+
+def first_impossible(forms, payload):
+    """The least place such that no string of a set begins with the payload up to and with that byte;
+    the payload's length if there is none."""
+    return max([fitting(form, payload) for form in forms])
+
+
+def is_in(forms, payload):
+    """Whether a set has the payload."""
+    size = len(payload)
+    return any([fitting(form, payload) == size for form in forms if len(form) == size])
+
+
+# The refusal or 0, the place that goes with 23, and where the value is in the block and its length.
+Decoded = namedtuple("Decoded", "refusal place start length")
+
+
+def decode_response(sent, response):
+    """What the reader says of a block, as the answer to a payload that was sent.
+
+    First what the writer says of that payload, then 3 to 6 of the block, in which a wake byte is 4,
+    then 23.
+    """
+    refusal = validate_payload(sent)
+    if refusal != ACCEPTED:
+        return Decoded(refusal, 0, 0, 0)
+    refusal, start, length = read_frame(response, most_wakes=0)
+    if refusal != ACCEPTED:
+        return Decoded(refusal, 0, 0, 0)
+    payload = response[start:]
+    forms, value_start = possible_responses(sent)
+    if not is_in(forms, payload):
+        return Decoded(NO_SUCH_RESPONSE, first_impossible(forms, payload), 0, 0)
+    return Decoded(ACCEPTED, 0, start + value_start, length - value_start)
 
 
 # ---- 01, "Command writer and stored image" (the image) ---------------------------------------

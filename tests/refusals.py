@@ -38,6 +38,7 @@ REFUSALS = (
     Refusal(17, "IMAGE_LENGTH", "the image buffer does not have 249 bytes"),
     Refusal(18, "IMAGE_MARK", "the image's mark is wrong"),
     Refusal(19, "IMAGE_VERSION", "the image's version is not 1"),
+    Refusal(23, "NO_SUCH_RESPONSE", "no valid state makes the module respond so to the command"),
     Refusal(24, "PACKET_ENDS", "the packet's first or last byte is wrong, or the block is empty"),
     Refusal(
         25,
@@ -50,11 +51,12 @@ REFUSALS = (
 )
 NUMBERS = {refusal.name: refusal.number for refusal in REFUSALS}
 
-# The numbers of a payload and of a block, in the order in which they are given. Of `3 to 6` it is the one
-# whose byte is met first. 8 is there twice: for a payload without an item and for a long 81 or 82, then
-# for any other wrong length.
+# The numbers of a frame, of a payload and of a block, in the order in which they are given. Of `3 to 6` it is
+# the one whose byte is met first. 8 is there twice: for a payload without an item and for a long 81 or 82,
+# then for any other wrong length.
+FRAME = "3 to 6"
 PAYLOAD = "7, 8, 9, 10, 8, 11, 12"
-BLOCK = f"3 to 6, {PAYLOAD}"
+BLOCK = f"{FRAME}, {PAYLOAD}"
 
 # The numbers of a packet that is read, and of a Coyote packet that is written. A Freestar packet adds 28,
 # before 13.
@@ -64,14 +66,16 @@ PACKET_WRITTEN = "27, 13"
 # The C libraries. The name of an entry begins with its library's; the replay program is no library's.
 LIBRARIES = "cdi", "coyote", "freestar"
 
-# The numbers of each entry. The replay program has 22 bytes for each response and starts from a valid
-# state.
+# The numbers of each entry. The reader of responses first gives those of the payload that was sent, 3 if it is
+# empty, and then those of the response's frame, in which the first wake byte is 4. The replay program has 22
+# bytes for each response and starts from a valid state.
 ORDERS = {
     "cdi_execute": f"1, 2, {BLOCK}",
     "cdi_power_up": "2",
     "cdi_save": "17, 2",
     "cdi_load": "17, 18, 19, 2",
     "cdi_encode_command": f"13, 14, 3, {PAYLOAD}",
+    "cdi_decode_response": f"3, {PAYLOAD}, {FRAME}, 23",
     "cdi_readout": "15, 16",
     "replay": BLOCK,
     "coyote_decode": PACKET_READ,

@@ -7,7 +7,7 @@ import functools
 
 import reference
 from library import ANALOG_INPUT, BYTE, struct
-from payloads import random_value
+from payloads import accepted_value
 from reference import FACTORY_STATE
 
 # ---- Layout ----------------------------------------------------------------------------------
@@ -276,13 +276,6 @@ def slot_edges():
 
 
 # ---- Random states ---------------------------------------------------------------------------
-
-
-def accepted_value(rng, item):
-    while True:
-        value = random_value(rng, item)
-        if reference.accepts(item, value):
-            return value
 
 
 def random_settings(rng):

@@ -7,7 +7,8 @@ A benchmark compares like with like only where both print the same bytes. Both b
 bench/run times are made with every warning an error, and run on the benchmark's own traffic, on every
 command and item, on damaged frames and lines, at the borders of a read and on bytes by chance. A log
 starts from the factory state and so never meets a name, live cells, an invalid state or a short
-response buffer; with these the peer's module is called by itself and compared with reference.py.
+response buffer; with these the peer's module is called by itself and compared with reference.py. So is
+the peer's reader of responses.
 
 The peers of the Coyote packets and of the Freestar messages are called and compared with
 coyote_reference.py and freestar_reference.py, and the programs whose calls bench/run counts have to
@@ -28,9 +29,11 @@ sys.path.append(str(pathlib.Path(__file__).resolve().parent.parent / "bench"))
 sys.dont_write_bytecode = True  # leaves no files beside the tests
 
 import coyote_entries
+import entries
 import freestar_entries
 import measure
 import reference
+import responses
 import traffic
 from cases import refused_payloads
 from coyote_entries import Addressed, Export, Failure, ReadMemory, Success, counted, mended, packet
@@ -93,6 +96,9 @@ from states import (
 
 SEED = 20240005
 
+# What the libraries that have a peer are called.
+NAMES = {measure.CDI: "CDI", measure.COYOTE: "Coyote", measure.FREESTAR: "Freestar"}
+
 # ---- Building --------------------------------------------------------------------------------
 
 # The builds that bench/run times. The second never asks whether the state is valid, which no log can
@@ -124,10 +130,10 @@ def modules(folder):
         yield name, load(path, SIGNATURES)
 
 
-def peer_of(folder, library, signatures):
-    """The peer of a library of packets, with its functions under the library's names."""
-    path = compiled(folder / f"{library}_peer.so", "-shared", "-fPIC", f"bench/{library}_peer.c")
-    names = {name: name.replace(f"{library}_", f"{library}_peer_", 1) for name in signatures}
+def peer_of(folder, libraries, signatures):
+    """The peer of a library, with its functions under the library's names."""
+    path = compiled(folder / f"{libraries.library}_peer.so", "-shared", "-fPIC", f"bench/{libraries.peer}.c")
+    names = {name: name.replace(f"{libraries.library}_", f"{libraries.peer}_", 1) for name in signatures}
     peer = load(path, {names[name]: signature for name, signature in signatures.items()})
     return types.SimpleNamespace(**{name: getattr(peer, own) for name, own in names.items()})
 
@@ -404,6 +410,36 @@ def check_module_coverage(name, module):
     wanted = {0, *OWN["cdi_execute"]} - (set() if module.asks else {reference.INVALID})
     if set(module.seen) != wanted or min(module.seen.values()) < 5:
         raise Problem(f"the calls of {name} by refusal are too few: {sorted(module.seen.items())}")
+
+
+# ---- Responses -------------------------------------------------------------------------------
+
+READER = "cdi_decode_response"
+
+
+def check_response_cases(peer, rng):
+    """Responses for which what is read is written down."""
+    for case in responses.written_cases():
+        peer.literal_decode(*case)
+
+
+def check_responses(peer, rng):
+    """True responses to every command, with each byte replaced by each other, cut, shifted, and in broken frames; payloads that are
+    refused; the longest blocks, and blocks by chance."""
+    damaged = responses.damaged_responses, responses.cut_responses, responses.shifted_responses, responses.framed_responses
+    others = responses.long_responses, responses.random_responses
+    for made in (*damaged, *others):
+        for sent, response in made(rng):
+            peer.decode(sent, response)
+    for sent, response in responses.refused_sent():
+        peer.decode(sent, response)
+
+
+RESPONSE_CHECKS = (check_response_cases, check_responses)
+
+
+def check_response_coverage(peer):
+    check_seen("outcomes", {READER: {0, *OWN[READER]}}, peer.outcomes)
 
 
 # ---- Coyote packets --------------------------------------------------------------------------
@@ -689,9 +725,13 @@ def check_freestar_coverage(peer):
 # ---- Counted calls ---------------------------------------------------------------------------
 
 
+def hex_pairs(content):
+    return content.hex(" ").upper()
+
+
 def in_buffer(block, size):
     """A buffer of the counted calls with a packet in its first bytes, as text; the rest is EE."""
-    return block.ljust(size, b"\xee").hex(" ").upper()
+    return hex_pairs(block.ljust(size, b"\xee"))
 
 
 # What bench/coyote_count.c prints before the buffer, and the packet that is then in the buffer, if any.
@@ -740,50 +780,78 @@ FREESTAR_COUNTED = {
 }
 
 
-def counting_programs(folder, library):
-    """bench/LIBRARY_count.c with the peer and with the library."""
-    sources, built = (f"bench/{library}_count.c", "bench/calls.c"), sdk()
-    yield compiled(folder / f"{library}_count_by_peer", "-DPEER", *sources, f"bench/{library}_peer.c")
+# The module that bench/count.c begins with: a name of 16 characters, and slot 39 in use.
+COUNTED_MODULE = changed(
+    FACTORY_STATE, {"stored.name": b"Swap bay 7 north\x00".hex(), "stored.slots.39": "01 02 03 04 05"}
+)
+
+
+def command_line(words):
+    """What bench/count.c prints of a block."""
+    after, refusal, length, buffer = reference.execute(COUNTED_MODULE, bytes.fromhex(words), 22 * b"\xaa")
+    return f"refusal {refusal} length {length} response {hex_pairs(buffer)} state {hex_pairs(packed(after))}"
+
+
+def response_line(words):
+    """What it prints of a response to a payload that was sent."""
+    sent, response = map(bytes.fromhex, words.split("/"))
+    refusal, place, start, length = reference.decode_response(sent, response)
+    fields = f"refusal {refusal} length {length} start {start} place {place}"
+    return f"{fields} sent {hex_pairs(sent)} response {hex_pairs(response)}"
+
+
+def counting_programs(folder, libraries):
+    """The program that counts a library's calls, with the peer and with the library."""
+    library, peer = libraries
+    source = "bench/count.c" if libraries == measure.CDI else f"bench/{library}_count.c"
+    sources, built = (source, "bench/calls.c"), sdk()
+    yield compiled(folder / f"{library}_count_by_peer", "-DPEER", *sources, f"bench/{peer}.c")
     include, archive = f"-I{built / 'include'}", built / "lib" / f"lib{library}.a"
     yield compiled(folder / f"{library}_count_by_library", include, *sources, archive)
 
 
 def counted_line(program, operation):
     """The first line that a program prints for two calls of an operation."""
-    done = subprocess.run([program, "2", operation], capture_output=True, text=True)
+    done = subprocess.run([program, "2", *operation.split()], capture_output=True, text=True)
     if done.returncode != 0:
         raise Problem(f"{program.name} failed with {done.returncode} in {operation}: {done.stderr.strip()}")
     return done.stdout.partition("\n")[0]
 
 
-def compare_lines(folder, library, calls, lines):
+def compare_lines(folder, libraries, calls, lines):
     """Each call that bench/run counts prints the line written down for it, with the peer and with the library."""
     operations = {call.words for call in calls}
     same_sets("counted calls", set(lines), "the test", operations, "bench/measure.py")
-    for program, operation in itertools.product(counting_programs(folder, library), lines):
+    for program, operation in itertools.product(counting_programs(folder, libraries), lines):
         wanted, came = lines[operation], counted_line(program, operation)
         if came != wanted:
             raise Problem(f"difference in {operation}, {program.name}\n  expected: {wanted}\n  came:     {came}")
-    name = library.capitalize()
-    return f"{len(operations)} counted calls of the {name} library and of its C peer give the same"
+    return f"{len(operations)} counted calls of the {NAMES[libraries]} library and of its C peer give the same"
+
+
+def check_cdi_counted(folder):
+    """The commands and the responses that bench/run counts; what they print is the reference's."""
+    commands = {call.words: command_line(call.words) for call in measure.COMMANDS}
+    read = {call.words: response_line(call.words) for call in measure.RESPONSES}
+    return compare_lines(folder, measure.CDI, measure.COMMANDS + measure.RESPONSES, {**commands, **read})
 
 
 def check_coyote_counted(folder):
     """The packets that bench/run counts."""
     lines = {name: f"{words} buffer {in_buffer(block, 1066)}" for name, (words, block) in COYOTE_COUNTED.items()}
-    return compare_lines(folder, "coyote", measure.PACKETS, lines)
+    return compare_lines(folder, measure.COYOTE, measure.PACKETS, lines)
 
 
 def check_freestar_counted(folder):
     """The messages that bench/run counts."""
     lines = {}
     for name, (words, block, settings) in FREESTAR_COUNTED.items():
-        after = freestar_entries.packed(settings).hex(" ").upper()
+        after = hex_pairs(freestar_entries.packed(settings))
         lines[name] = f"{words} buffer {in_buffer(block, FREESTAR_LONGEST)} settings {after}"
-    return compare_lines(folder, "freestar", measure.MESSAGES, lines)
+    return compare_lines(folder, measure.FREESTAR, measure.MESSAGES, lines)
 
 
-COUNTED_CHECKS = (check_coyote_counted, check_freestar_counted)
+COUNTED_CHECKS = (check_cdi_counted, check_coyote_counted, check_freestar_counted)
 
 
 # ---- The run ---------------------------------------------------------------------------------
@@ -813,14 +881,14 @@ def compare_modules(folder, checks, whole):
         print(f"{module.calls} calls of the module of {name} and of the reference agree")
 
 
-def compare_peer(library, entries, check_coverage, folder, checks, whole):
-    """Compares the peer of a library of packets with the reference of `entries`."""
-    peer = entries.Comparison(peer_of(folder, library, entries.SIGNATURES))
+def compare_peer(libraries, comparison, signatures, check_coverage, folder, checks, whole):
+    """Compares functions of a library's peer with the reference."""
+    peer = comparison(peer_of(folder, libraries, signatures))
     for check in checks:
         check(peer, random.Random(SEED))
     if whole:
         check_coverage(peer)
-    print(f"{peer.calls} calls of the C peer of the {library.capitalize()} library and of the reference agree")
+    print(f"{peer.calls} calls of the C peer of the {NAMES[libraries]} library and of the reference agree")
 
 
 def compare_counted(folder, checks, whole):
@@ -828,11 +896,18 @@ def compare_counted(folder, checks, whole):
         print(check(folder))
 
 
+def peer_part(libraries, module, names, check_coverage, checks):
+    """A part of the run: functions of a peer, by the comparison and the signatures of a library's entries."""
+    signatures = {name: module.SIGNATURES[name] for name in names}
+    return functools.partial(compare_peer, libraries, module.Comparison, signatures, check_coverage), checks
+
+
 PARTS = (
     (compare_logs, LOG_CHECKS),
     (compare_modules, MODULE_CHECKS),
-    (functools.partial(compare_peer, "coyote", coyote_entries, check_coyote_coverage), COYOTE_CHECKS),
-    (functools.partial(compare_peer, "freestar", freestar_entries, check_freestar_coverage), FREESTAR_CHECKS),
+    peer_part(measure.CDI, entries, [READER], check_response_coverage, RESPONSE_CHECKS),
+    peer_part(measure.COYOTE, coyote_entries, coyote_entries.SIGNATURES, check_coyote_coverage, COYOTE_CHECKS),
+    peer_part(measure.FREESTAR, freestar_entries, freestar_entries.SIGNATURES, check_freestar_coverage, FREESTAR_CHECKS),
     (compare_counted, COUNTED_CHECKS),
 )
 

@@ -1,6 +1,6 @@
 #!/usr/bin/env python3
-"""Provokes every number of document 01, "Numbers that a refusal carries", through every entry that
-gives it: the functions of the CDI library that refuse, and the replay program.
+"""Provokes every number of document 01, "Numbers that a refusal carries", and of document 02's Ask 1
+through every entry that gives it: the functions of the CDI library that refuse, and the replay program.
 
 refusals.py has each entry's numbers in their order. The cases are written from the paper, as bytes: what
 is refused, at the border where there is one, and what lies just inside and is accepted. If two refusals
@@ -27,14 +27,15 @@ from reference import FACTORY_STATE
 from refusals import ORDERS, OWN, entries_of, numbers_of, places
 from states import FILLED, FILLED_IMAGE, NO_MODE, changed, packed, with_bytes
 
-# Neighbours in an order that can't both apply, with the entries, and why.
+# Neighbours in an order that can't both apply, with the entries, and why. The reader of responses gives 3 also
+# for an empty payload that was sent, and then 6 can apply to the response.
 APART = (
     (3, 6, ("cdi_execute", "replay"), "a block has too few bytes for its length byte, or too many"),
-    (3, 7, ("cdi_encode_command",), "an empty payload has no command"),
+    (3, 7, ("cdi_encode_command", "cdi_decode_response"), "an empty payload has no command"),
     (
         9,
         10,
-        ("cdi_execute", "cdi_encode_command", "replay"),
+        ("cdi_execute", "cdi_encode_command", "cdi_decode_response", "replay"),
         "what an item permits is in the item list, which lacks an item that isn't served",
     ),
 )
@@ -101,6 +102,16 @@ class Encode(collections.namedtuple("Encode", "payload wake room", defaults=(0, 
         given = filler(self.room)
         number, length, buffer = numbers.encode(bytes.fromhex(self.payload), self.wake, given)
         return Outcome(number, length, given, buffer)
+
+
+class Decode(collections.namedtuple("Decode", "sent response", defaults=("80 55 83 C1 15 06",))):
+    """A response, as text, to a payload that was sent."""
+
+    entry = "cdi_decode_response"
+
+    def outcome(self, numbers):
+        decoded = numbers.decode(bytes.fromhex(self.sent), bytes.fromhex(self.response))
+        return Outcome(decoded.refusal, decoded.length, b"", b"")  # it is handed nothing that it may change
 
 
 class Readout(collections.namedtuple("Readout", "readings offset", defaults=(0,))):
@@ -192,6 +203,19 @@ FRAMES = (
     (6, ("80 55 FF" + 128 * " 00",), ()),
 )
 
+# Responses to Read of item 15: a number, what it refuses, and what is accepted beside it.
+RESPONSES = (
+    (3, ("", "80", "80 55", "80 55 83", "80 55 83 C1 15"), ("80 55 83 C1 15 06",)),
+    (3, ("80 55 FF" + 126 * " 00",), ()),
+    (4, ("00", "81", "81 55 83 C1 15 06", "80 54", "80 56 83 C1 15 06"), ("80 55 83 C1 15 06",)),
+    # no wake byte is allowed
+    (4, ("80 FF", "80 FF 55 83 C1 15 06", "80" + 16 * " FF" + " 55 83 C1 15 06"), ()),
+    (5, ("80 55 00", "80 55 7F C1", "80 55 80", "80 55 03 C1 15 06"), ("80 55 83 C1 15 00",)),
+    (6, ("80 55 83 C1 15 06 00", "80 55 83 C1 15 06 80 55 83 C1 15 06"), ("80 55 83 C1 15 06",)),
+    (23, ("80 55 83 C1 15 07", "80 55 82 C1 15", "80 55 84 C1 15 06 00"), ("80 55 83 C1 15 06",)),
+    (23, ("80 55 83 C2 15 06", "80 55 83 C1 14 06", "80 55 84 C0 00 01 15"), ()),
+)
+
 LONGEST = "04 18 27 01 02 03 04 05"  # with 16 wake bytes it fills 27 bytes
 READ_NAME = "80 55 82 01 01"
 # The response to its Read fills 22 bytes.
@@ -210,6 +234,7 @@ CASES = (
         (Execute(READ_15, 22), Execute(READ_15, 23), Execute(READ_NAME, 22, FULL_NAME)),
     ),
     (3, (Encode(""),), (Encode("81"),)),
+    (3, (Decode(""), Decode("", "")), (Decode("01 15"),)),
     (
         13,
         (Encode("81", 0, 0), Encode("81", 0, 26), Encode(LONGEST, 16, 26)),
@@ -256,6 +281,14 @@ def framed(payload):
     return frame(0, bytes.fromhex(payload)).hex(" ").upper()
 
 
+def responded(payload):
+    """A payload that was sent, with the response of a module whose cells are filled; with an echo if it refuses."""
+    sent = bytes.fromhex(payload)
+    accepted = reference.validate_payload(sent) == 0
+    answer = reference.perform(FILLED, sent)[1] if accepted else b"\xc0\x00" + sent[:125]
+    return Decode(payload, frame(0, answer).hex(" ").upper())
+
+
 def block_cases():
     """The same of blocks."""
     yield from FRAMES
@@ -282,6 +315,8 @@ def cases():
     for call in (Execute, Replay):
         yield from through(call, block_cases())
     yield from through(Encode, payload_cases())
+    yield from through(responded, payload_cases())
+    yield from through(partial(Decode, "01 15"), RESPONSES)
     for call in (partial(Execute, READ_15, 22), PowerUp, partial(Save, 249)):
         yield from through(call, state_cases())
     yield from through(Load, image_cases())
@@ -305,6 +340,20 @@ FRAME_ORDER = (
     (4, 7, "80 54 82 05 15", "80 55 82 05 15"),
     (5, 7, "80 55 02 05 15", "80 55 82 05 15"),
     (6, 7, "80 55 81 05 15", "80 55 81 05"),
+)
+
+# The same of responses to Read of item 15; the payload in a frame is looked at last.
+RESPONSE_ORDER = (
+    (4, 3, "81", "80"),
+    (4, 3, "80 FF", "80 55"),
+    (5, 3, "80 55 80", "80 55 81"),
+    (4, 5, "80 FF 55 80", "80 55 80"),
+    (4, 6, "80 FF 55 83 C1 15 06 00", "80 55 83 C1 15 06 00"),
+    (5, 6, "80 55 80 C1 15 06 00", "80 55 83 C1 15 06 00"),
+    (3, 23, "80 55 84 C2 15 06", "80 55 83 C2 15 06"),
+    (4, 23, "80 FF 55 83 C1 15 07", "80 55 83 C1 15 07"),
+    (5, 23, "80 55 03 C1 15 07", "80 55 83 C1 15 07"),
+    (6, 23, "80 55 83 C1 15 07 00", "80 55 83 C1 15 07"),
 )
 
 # The same of calls.
@@ -341,6 +390,13 @@ def before_payloads():
             yield 14, number, Encode(payload, wake, room), Encode(payload, 0, room)
 
 
+def before_responses():
+    """Each refusal of the payload that was sent comes before those of the response."""
+    for number, sent in refused_payloads():
+        for later, refused, _ in RESPONSES:
+            yield from ((number, later, Decode(sent, block), Decode("01 15", block)) for block in refused)
+
+
 def before_blocks():
     """1 and 2 come before each refusal of a block."""
     for number, block in refused_blocks():
@@ -354,11 +410,15 @@ def orders():
     yield from CALL_ORDER
     yield from before_blocks()
     yield from before_payloads()
+    yield from before_responses()
+    for first, second, both, mended in RESPONSE_ORDER:
+        yield first, second, Decode("01 15", both), Decode("01 15", mended)
     for first, second, both, mended in FRAME_ORDER:
         for call in (Execute, Replay):
             yield first, second, call(both), call(mended)
     for first, second, both, mended in PAYLOAD_ORDER:
         yield first, second, Encode(both), Encode(mended)
+        yield first, second, responded(both), responded(mended)
         for call in (Execute, Replay):
             yield first, second, call(framed(both)), call(framed(mended))
 
@@ -436,9 +496,11 @@ def check_strangers(numbers):
         for call in (*refused, *accepted):
             if isinstance(call, (Execute, Encode, Load)):
                 handed.add(call[0] if isinstance(call, Load) else bytes.fromhex(call[0]))
+            elif isinstance(call, Decode):
+                handed.add(bytes.fromhex(call.response))
     for given in sorted(handed):
         text, readings = given.hex(" "), tuple(17 * byte for byte in given)
-        for call in (Execute(text), Encode(text), Load(given), Readout(readings)):
+        for call in (Execute(text), Encode(text), Decode(text), Decode("01 15", text), Load(given), Readout(readings)):
             number = call.outcome(numbers).number
             if number not in {0, *OWN[call.entry]}:
                 raise Problem(f"{call.entry} gives {number}, which isn't its own: {inputs(call)}")
