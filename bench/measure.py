@@ -40,6 +40,18 @@ COMMANDS = (
     Call("Program of a slot", "execute", "80 55 88 04 18 27 01 02 03 04 05"),
     Call("Write of a bad value", "execute", "80 55 83 02 15 07"),
 )
+RESPONSES = (
+    Call("Read of one byte", "decode_response", "01 15 / 80 55 83 C1 15 06"),
+    Call("Read of the name", "decode_response", "01 01 / 80 55 93 C1 01 53 77 61 70 20 62 61 79 20 37 20 6E 6F 72 74 68 00"),
+    Call("Read of an analog input", "decode_response", "01 16 02 / 80 55 88 C1 16 02 05 10 01 80 00"),
+    Call("Read of a slot", "decode_response", "01 18 27 / 80 55 88 C1 18 27 01 02 03 04 05"),
+    Call("Read of the status", "decode_response", "01 23 / 80 55 86 C1 23 B4 7F 00 00"),
+    Call("Program of a slot", "decode_response", "04 18 27 01 02 03 04 05 / 80 55 8A C0 00 04 18 27 01 02 03 04 05"),
+    Call("Set Default", "decode_response", "81 / 80 55 83 C0 00 81"),
+    Call("A value that no module has", "decode_response", "01 15 / 80 55 83 C1 15 07"),
+    Call("A wake byte in the response", "decode_response", "01 15 / 80 FF 55 83 C1 15 06"),
+    Call("A payload that is refused", "decode_response", "02 15 07 / 80 55 85 C0 00 02 15 07"),
+)
 PACKETS = (
     Call("Read of 1,023 data bytes", "decode", "decode_data"),
     Call("Write of 1,023 data bytes", "encode_addressed", "encode_data"),
@@ -48,7 +60,7 @@ PACKETS = (
     Call("Read of a charge's packet", "decode", "decode_charge"),
     Call("Read of 1,023 data bytes with a wrong sum", "decode", "decode_damaged"),
 )
-LIMIT = 1.3  # the most instructions of a radio's library for each of the peer's
+LIMIT = 1.3  # the most instructions of the reader of responses, and of a radio's library, for each of the peer's
 MESSAGES = (
     Call("Set PAN ID", "execute", "execute_set_pan_id"),
     Call("Query PAN ID", "execute", "execute_query_pan_id"),
@@ -223,7 +235,9 @@ def check_same_result(folder, libraries, call):
     refusal, length = re.match(r"refusal (\d+)(?: length (\d+))?", result).groups()
     if refusal != "0":
         return f"refused {refusal}"
-    return f"{length} bytes" if length else "accepted"
+    if not length:
+        return "accepted"
+    return "1 byte" if length == "1" else f"{length} bytes"
 
 
 # A call's result, then the instructions, and the nanoseconds of each round, of the library and of the peer.
@@ -268,14 +282,31 @@ def commands(folder, plan):
     )
 
 
-def measured_calls(folder, plan, libraries, calls):
+# The second column of a table of calls: its head, and what it shows of a library's call.
+FUNCTION = "Function", lambda libraries, call: f"{libraries.library}_{call.function}"
+BYTES = "Sent / response", lambda libraries, call: call.words
+
+
+def measured_calls(folder, plan, libraries, calls, column=FUNCTION):
     """The table of a library's calls beside its peer's, and the largest ratio of their instructions: of all, of those that are
     accepted, and of those that are refused."""
+    head, shown = column
     taken = {call: measured(folder, plan, libraries, call) for call in calls}
-    rows = [(call.name, f"`{libraries.library}_{call.function}`", *measured_cells(one)) for call, one in taken.items()]
+    rows = [(call.name, f"`{shown(libraries, call)}`", *measured_cells(one)) for call, one in taken.items()]
     ratios = [(ratio(one.instructions), one.result.startswith("refused")) for one in taken.values()]
     most = [max(each for each, refused in ratios if refused in kind) for kind in ((False, True), (False,), (True,))]
-    return table(("Call", "Function", *MEASURED_HEAD), *rows), most
+    return table(("Call", head, *MEASURED_HEAD), *rows), most
+
+
+def responses(folder, plan):
+    """Single responses read, by the library and by the C peer."""
+    text, (_, accepted, refused) = measured_calls(folder, plan, CDI, RESPONSES, BYTES)
+    return (
+        "### One response by the C library\n\n"
+        "`cdi_decode_response` is handed the payload that was sent and the response. Every field of the result is the same in both, "
+        f"and no byte of the inputs changes. {how_measured(plan)}\n\n{text}\nLimit: at most {LIMIT} times the C peer's instructions. "
+        f"The largest ratio here is {accepted:.2f} where the response is accepted, and {refused:.2f} where it is refused.\n"
+    )
 
 
 def packets(folder, plan):
@@ -337,7 +368,7 @@ def main():
     folder = pathlib.Path(sys.argv[1])
     plan = QUICK if "--quick" in sys.argv[2:] else FULL
     print(conditions(), flush=True)
-    for measure in (throughput, growth, commands, packets, messages):
+    for measure in (throughput, growth, commands, responses, packets, messages):
         print(measure(folder, plan), flush=True)
 
 

@@ -1,15 +1,16 @@
-/* The module of document 01, written by hand in plain C: state, items, frame, commands. */
+/* The module of document 01, written by hand in plain C: state, items, frame, commands; and the
+ * reader of its responses of document 02's Ask 1. */
 
 #include "peer.h"
 
 #include <stdbool.h>
 #include <string.h>
 
-/* Document 01's numbers. */
+/* Document 01's numbers, and document 02's. */
 enum refusal {
     ACCEPTED, RESPONSE_BUFFER_SHORT, INVALID, ENDS_EARLY, BAD_START, BAD_LENGTH_BYTE,
     TRAILING_BYTES, COMMAND_NOT_SERVED, WRONG_LENGTH, ITEM_NOT_SERVED, NOT_PERMITTED,
-    WRONG_INDEX, VALUE_NOT_ACCEPTED
+    WRONG_INDEX, VALUE_NOT_ACCEPTED, NO_SUCH_RESPONSE = 23
 };
 
 /* ---- Items ---------------------------------------------------------------------------------- */
@@ -58,10 +59,13 @@ static bool accepts_tx_power(uint8_t value) { return (int8_t)value >= -20 && (in
 static bool accepts_control_source(uint8_t value) { return (value & 0xE0) == 0; }
 static bool accepts_message_select(uint8_t value) { return value <= 6; }
 
+static bool is_channel(uint8_t value) { return (value >= 0x04 && value <= 0x07) || value >= 0xFE; }
+static bool is_reading_count(uint8_t value) { return value >= 1 && value <= 16; }
+static bool is_reference(uint8_t value) { return value <= 1; }
+
 static bool accepts_analog_input(const uint8_t *row)
 {
-    bool channel = (row[0] >= 0x04 && row[0] <= 0x07) || row[0] >= 0xFE;
-    return channel && row[1] >= 1 && row[1] <= 16 && row[2] <= 1;
+    return is_channel(row[0]) && is_reading_count(row[1]) && is_reference(row[2]);
 }
 
 static bool accepts_slot(const uint8_t *slot)
@@ -71,7 +75,7 @@ static bool accepts_slot(const uint8_t *slot)
     return address != 0 || slot[4] == 0;
 }
 
-static bool accepts(uint8_t item, const uint8_t *value)
+static inline bool accepts(uint8_t item, const uint8_t *value)
 {
     switch (item) {
     case TX_POWER: return accepts_tx_power(value[0]);
@@ -113,16 +117,17 @@ static bool are_valid_settings(const struct peer_settings *settings)
            accepts_analog_input(settings->analog_inputs[1]);
 }
 
+static bool are_valid_flags(uint8_t flags) { return (flags & 0x07) <= 4 && (flags & 0xC8) == 0; }
+
 static bool is_valid(const struct peer_state *state)
 {
     const struct peer_stored *stored = &state->stored;
-    uint8_t flags = state->live.flags;
     if (memchr(stored->name, 0x00, PEER_NAME) == NULL) return false;
     if (!are_valid_settings(&stored->settings)) return false;
     if (!are_valid_settings(&state->working.settings)) return false;
     for (size_t i = 0; i < PEER_SLOTS; i++)
         if (!accepts_slot(stored->slots[i])) return false;
-    return (flags & 0x07) <= 4 && (flags & 0xC8) == 0;
+    return are_valid_flags(state->live.flags);
 }
 
 /* ---- Frame and payload ---------------------------------------------------------------------- */
@@ -149,7 +154,7 @@ static enum refusal read_frame(const uint8_t *block, size_t size, const uint8_t 
     return size - at > *length ? TRAILING_BYTES : ACCEPTED;
 }
 
-static enum refusal validate_payload(const uint8_t *payload, size_t length)
+static inline enum refusal validate_payload(const uint8_t *payload, size_t length)
 {
     static const uint8_t marks[] = {[READ] = R, [WRITE] = W, [READ_NV] = N, [PROGRAM] = P};
     if (payload[0] == SET_DEFAULT || payload[0] == ERASE_ALL_ADDRESSES)
@@ -264,4 +269,106 @@ struct peer_outcome peer_execute(struct peer_state *state, const uint8_t *block,
     response[1] = WAKES_END;
     response[2] = (uint8_t)(LENGTH_BASE + length);
     return (struct peer_outcome){ACCEPTED, 3 + length};
+}
+
+/* ---- Reading a response --------------------------------------------------------------------- */
+
+enum { PAYLOAD = 3, ECHO = 2 }; /* where the payload starts in a response, and the echo in a payload */
+
+static struct peer_decoded refused(enum refusal refusal)
+{
+    return (struct peer_decoded){.refusal = (uint8_t)refusal};
+}
+
+static struct peer_decoded no_response(size_t place)
+{
+    return (struct peer_decoded){.refusal = NO_SUCH_RESPONSE, .place = place};
+}
+
+static struct peer_decoded value_in(size_t start, size_t length)
+{
+    return (struct peer_decoded){.start = PAYLOAD + start, .length = length};
+}
+
+/* A response has no wake bytes. */
+static enum refusal check_response_frame(const uint8_t *block, size_t size)
+{
+    if (size == 0) return ENDS_EARLY;
+    if (block[0] != FRAME_START) return BAD_START;
+    if (size == 1) return ENDS_EARLY;
+    if (block[1] != WAKES_END) return BAD_START;
+    if (size == 2) return ENDS_EARLY;
+    if (block[2] <= LENGTH_BASE) return BAD_LENGTH_BYTE;
+    size_t end = PAYLOAD + (size_t)(block[2] - LENGTH_BASE);
+    if (size < end) return ENDS_EARLY;
+    return size > end ? TRAILING_BYTES : ACCEPTED;
+}
+
+/* The place of the first byte that the item's value can't have there, after those before it; the
+ * size if there is none. There is at least one byte; the value may be cut, and bytes may follow. */
+static size_t first_impossible(uint8_t item, const uint8_t *value, size_t size)
+{
+    switch (item) {
+    case TX_POWER: return accepts_tx_power(value[0]) ? size : 0;
+    case CONTROL_SOURCE: return accepts_control_source(value[0]) ? size : 0;
+    case MESSAGE_SELECT: return accepts_message_select(value[0]) ? size : 0;
+    case STATUS: return are_valid_flags(value[0] & 0x7F) ? size : 0;
+    case SLOT: return size < PEER_ROW || accepts_slot(value) ? size : PEER_ROW - 1;
+    case ANALOG_INPUT:
+        if (!is_channel(value[0])) return 0;
+        if (size > 1 && !is_reading_count(value[1])) return 1;
+        return size > 2 && !is_reference(value[2]) ? 2 : size;
+    default: return size;
+    }
+}
+
+/* The first 00 ends a name. It is the last of 17 bytes at the latest. */
+static struct peer_decoded decode_name(const uint8_t *value, size_t size, size_t start)
+{
+    const uint8_t *zero = memchr(value, 0x00, size < PEER_NAME ? size : PEER_NAME);
+    if (zero == NULL) return no_response(start + (size < PEER_NAME ? size : PEER_NAME - 1));
+    size_t length = (size_t)(zero - value) + 1;
+    return length < size ? no_response(start + length) : value_in(start, length);
+}
+
+static struct peer_decoded decode_value(const uint8_t *sent, size_t start, const uint8_t *payload,
+                                        size_t length)
+{
+    if (payload[0] != (sent[0] == READ ? READ_RESPONSE : READ_NV_RESPONSE)) return no_response(0);
+    if (length == 1 || payload[1] != sent[1]) return no_response(1);
+    if (start == 3 && (length == 2 || payload[2] != sent[2])) return no_response(2);
+    if (length == start) return no_response(start);
+    const uint8_t *value = payload + start;
+    size_t size = length - start, whole = items[sent[1]].value_length;
+    if (sent[1] == NAME) return decode_name(value, size, start);
+    size_t place = first_impossible(sent[1], value, size);
+    if (place == whole && size == whole) return value_in(start, whole);
+    return no_response(start + (place < whole ? place : whole));
+}
+
+static struct peer_decoded decode_echo(const uint8_t *sent, size_t sent_size,
+                                       const uint8_t *payload, size_t length)
+{
+    if (payload[0] != ACKNOWLEDGED) return no_response(0);
+    if (length == 1 || payload[1] != 0x00) return no_response(1);
+    const uint8_t *echo = payload + ECHO;
+    size_t size = length - ECHO, same = 0;
+    if (size == sent_size && memcmp(echo, sent, size) == 0) return value_in(ECHO, size);
+    while (same < size && same < sent_size && echo[same] == sent[same])
+        same++;
+    return no_response(ECHO + same);
+}
+
+struct peer_decoded peer_decode_response(const uint8_t *sent, size_t sent_size,
+                                         const uint8_t *response, size_t response_size)
+{
+    if (sent_size == 0) return refused(ENDS_EARLY);
+    enum refusal refusal = validate_payload(sent, sent_size);
+    if (refusal == ACCEPTED)
+        refusal = check_response_frame(response, response_size);
+    if (refusal != ACCEPTED) return refused(refusal);
+    const uint8_t *payload = response + PAYLOAD;
+    size_t length = response_size - PAYLOAD;
+    if (sent[0] == READ || sent[0] == READ_NV) return decode_value(sent, sent_size, payload, length);
+    return decode_echo(sent, sent_size, payload, length);
 }

@@ -1,4 +1,5 @@
-/* The module of document 01, written by hand in plain C: what the proved one is measured beside. */
+/* The module of document 01, and the reader of its responses of document 02's Ask 1, written by hand
+ * in plain C: what the proved ones are measured beside. */
 #ifndef PEER_H
 #define PEER_H
 
@@ -52,10 +53,21 @@ struct peer_outcome {
     size_t length;
 };
 
+/* Of the reader: the number or 0; with 23 the place in the payload; where the value, or the echo, is in
+ * the response. What isn't named is 0. */
+struct peer_decoded {
+    uint8_t refusal;
+    size_t place, start, length;
+};
+
 struct peer_state peer_factory(void);
 
 /* Executes one command block. A refusal changes no byte; bytes after the response stay. */
 struct peer_outcome peer_execute(struct peer_state *state, const uint8_t *block, size_t block_size,
                                  uint8_t *response, size_t response_size);
+
+/* Reads a response to the payload that was sent. */
+struct peer_decoded peer_decode_response(const uint8_t *sent, size_t sent_size,
+                                         const uint8_t *response, size_t response_size);
 
 #endif
