@@ -46,6 +46,6 @@ parseRest s =
 abbrev pub aboutNoItem : ℕ → Checked
 aboutNoItem n = record { refusal = n; item = row 0 0 false 0 }
 
--- what a check tells of a payload
+-- what a check tells of a payload; its item is free if the payload is refused or is about no item
 abbrev pub checkedResult : List ℕ → Checked → Result Command
 checkedResult s r = unlessRefused (r .refusal) (accepted (commandAbout (r .item) s))
