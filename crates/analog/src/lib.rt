@@ -1,6 +1,8 @@
 // The analog readout and the charge in percent: document 01, "Readout and percent". `readout` is 16 times the mean of the readings,
 // rounded down once, plus the signed offset, clamped to 16 bits; it refuses with 15, then 16. `percent` rounds to the nearest, halves up,
 // and is at most 100.
+#![tactic(auto)]
+
 ghost use Rattle.std.specs.Prelude.{◌≡◌, ◌≤◌, pos, ◌+ℤ◌, length};
 ghost use Rattle.analog.specs.Analog.{readings_max, readout_max, any_over, sum_of, clamped, readout_of, percent_of};
 
@@ -19,7 +21,7 @@ const FULL_SCALE: u32 = 65536;
 
 // The number of the refusal or 0, and the readout, 0 on a refusal.
 #[repr(C)]
-#[derive(Drop)]
+#[derive(Clone, Copy)]
 pub struct ReadoutResult {
     pub refusal: u8,
     pub readout: u16,
@@ -39,6 +41,7 @@ fn any_over(readings: &[u16]) -> bool
     false
 }
 
+#[tactic(auto, unfolding(crate::specs::Analog::sum_of))]
 fn sum(readings: &[u16]) -> usize
     requires { length readings.now ≤ readings_max }
     ensures { result ≡ sum_of readings.now }

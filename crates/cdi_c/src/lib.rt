@@ -1,6 +1,8 @@
 // The entries with the C ABI; include/cdi.h declares them and says what each reads and writes. The state stays where the controller
 // has it and is updated there (document 01, "Items", the bay controller's record): an entry calls a function by value with it, and
 // stores the state of the result.
+#![tactic(auto)]
+
 ghost use Rattle.std.specs.Prelude.{◌≡◌, length};
 ghost use Rattle.refusal.specs.Refusal.{outcome_of, buffer_after};
 ghost use Rattle.analog.specs.Analog.{readout_of, percent_of};

@@ -1,6 +1,8 @@
 // The reader of the module's responses, for the host: document 02, Ask 1. `decode_response` is handed the payload that was sent and the
 // block that came back. It accepts exactly the responses that a module in a valid state can give to that payload, and says where the value
 // is. Any other payload is refused with 23 and the place of its first byte that no such response has there.
+#![tactic(auto)]
+
 mod value;
 
 ghost use Rattle.std.specs.Prelude.{◌≡◌, ◌∷◌, ◌+◌, ◌≤◌, length};
@@ -20,7 +22,7 @@ use refusal::{NO_SUCH_RESPONSE, NONE};
 
 // What was read: the number of the refusal or 0; with 23 the place in the payload; where the value, or the echo, is in the block.
 #[repr(C)]
-#[derive(Drop)]
+#[derive(Clone, Copy)]
 pub struct Decoded {
     pub refusal: u8,
     pub place: usize,
@@ -226,6 +228,7 @@ fn read_block(item: Item, sent: &[u8], block: &[u8]) -> Decoded
 
 // Reads a block as the response to a payload that was sent. The refusals of the payload come first, as the host's writer gives them, then
 // those of the frame, then 23.
+#[tactic(auto, unfolding(crate::specs::Decode::decode_response))]
 pub fn decode_response(sent: &[u8], block: &[u8]) -> Decoded
     ensures { result ≡ decoded_fields (decode_response sent.now block.now) }
 {

@@ -100,6 +100,7 @@ fn byte_or(value: &[u8], i: usize, other: u8) -> u8
     if i < value.len() { value[i] } else { other }
 }
 
+#[tactic(auto, unfolding(cdi_item::specs::Values::accepted_value))]
 fn accepts_input(channel: u8, readings: u8, reference: u8) -> bool
     ensures { result ≡ accepted_input (channel ∷ readings ∷ reference ∷ []) }
 {
@@ -164,6 +165,7 @@ fn first_of(value: &[u8]) -> Value
 }
 
 // Of a slot the mask has a rule, which is about the address too.
+#[tactic(auto, unfolding(cdi_item::specs::Values::accepted_value))]
 fn place_in_slot(item: Item, value: &[u8]) -> usize
     requires { (item.code ≡ paired_module) × (item.length ≡ row_length) }
     ensures { result ≡ place_in_value item value.now }

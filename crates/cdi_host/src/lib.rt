@@ -1,5 +1,7 @@
 // The host's writer of command frames: document 01, "Command writer". `encode_command` refuses with 13, 14, then as the module does. The
 // module reads what it writes as exactly that payload; the bytes after the frame stay.
+#![tactic(auto)]
+
 ghost use Rattle.std.specs.Prelude.{◌≡◌, ◌+◌, ◌≤◌, length, replicate};
 ghost use Rattle.std.proofs.lemmas.List.Edits.{sets};
 ghost use Rattle.logic.specs.Written.{written};
@@ -52,6 +54,7 @@ fn write_frame(payload: &[u8], wake: usize, frame: &mut [u8]) -> usize
 
 // Writes a payload as the frame of a command, with so many wake bytes, over the front of `frame`. The payload is validated as
 // the module does; the bytes after the frame stay, and on a refusal all of them.
+#[tactic(auto, unfolding(crate::specs::Encode::encode_command))]
 pub fn encode_command(payload: &[u8], wake: usize, frame: &mut [u8]) -> Outcome
     ensures { (result ≡ outcome_of (encode_command payload.now wake (length frame.old))) × (frame.new ≡ buffer_after (encode_command payload.now wake (length frame.old)) frame.old) }
 {

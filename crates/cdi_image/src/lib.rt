@@ -1,5 +1,7 @@
 // The stored image: document 01, "Command writer and stored image". `save` writes what a module keeps without power, and `load` brings
 // it back: what `save` writes `load` accepts on any state, with the same stored cells. An image that is refused changes nothing.
+#![tactic(auto)]
+
 mod read;
 mod write;
 
@@ -43,6 +45,7 @@ const SLOTS_AT: usize = 43;
 const INTERRUPT_MASK_AT: usize = 243;
 
 // Writes the image of a state, which fills `image`. A refusal writes no byte of it.
+#[tactic(auto, unfolding(crate::specs::Image::saved))]
 pub fn save(state: ModuleState, image: &mut [u8]) -> Outcome
     ensures { (result ≡ outcome_of (saved state (length image.old))) × (image.new ≡ buffer_after (saved state (length image.old)) image.old) }
 {
@@ -61,7 +64,7 @@ pub fn save(state: ModuleState, image: &mut [u8]) -> Outcome
 
 // What came of a load: the state after it, and the number of the refusal or 0.
 #[repr(C)]
-#[derive(Drop)]
+#[derive(Clone, Copy)]
 pub struct Loaded {
     pub state: ModuleState,
     pub refusal: u8,
@@ -93,6 +96,7 @@ fn load_stored(state: ModuleState, stored: Stored) -> Loaded
 }
 
 // The state with what an image holds, and then powered up. The state before may be invalid; a refusal leaves it.
+#[tactic(auto, unfolding(crate::specs::Image::loaded))]
 pub fn load(state: ModuleState, image: &[u8]) -> Loaded
     ensures { result ≡ loaded_as state (loaded state image.now) }
 {

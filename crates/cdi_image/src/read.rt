@@ -57,6 +57,7 @@ fn row_in(bytes: &[u8]) -> [u8; ROW_LENGTH]
     [bytes[0], bytes[1], bytes[2], bytes[3], bytes[4]]
 }
 
+#[tactic(auto, unfolding(crate::specs::Image::slots_in))]
 fn slots_in(rows: &[u8]) -> [Slot; SLOT_COUNT]
     requires { length rows.now ≡ slot_count * row_length }
     ensures { result ≡ slots_in slot_count rows.now }
@@ -93,6 +94,7 @@ fn settings_in(contents: &[u8]) -> Settings
 }
 
 // The stored part that contents hold. What stands behind them is not read.
+#[tactic(auto, unfolding(crate::specs::Image::stored_in))]
 pub(crate) fn stored_in(contents: &[u8]) -> Stored
     requires { contents_size ≤ length contents.now }
     ensures { result ≡ stored_in contents.now }

@@ -1,5 +1,7 @@
 // The module: a command block executed on a state, and a power-up. Document 01, "What the unit serves". The sequence theorem is
 // about these two entries.
+#![tactic(auto)]
+
 mod response;
 
 ghost use Rattle.std.specs.Prelude.{◌≡◌, [], ◌≤◌, length};
@@ -20,7 +22,7 @@ pub const RESPONSE_BUFFER_MIN: usize = 22;
 
 // What came of a block: the state after it, and the refusal or the length of the response.
 #[repr(C)]
-#[derive(Drop)]
+#[derive(Clone, Copy)]
 pub struct Execution {
     pub state: ModuleState,
     pub outcome: Outcome,
@@ -28,7 +30,7 @@ pub struct Execution {
 
 // What came of a power-up: the state after it, and the number of the refusal or 0.
 #[repr(C)]
-#[derive(Drop)]
+#[derive(Clone, Copy)]
 pub struct PowerUp {
     pub state: ModuleState,
     pub refusal: u8,
@@ -37,6 +39,7 @@ pub struct PowerUp {
 // Decides on a command block: its command, or the number of its refusal. `valid` tells whether the state is valid, and `room` how many
 // bytes the response buffer has that `respond` is to be handed. No step changes whether a state is valid, so a caller that runs many
 // blocks asks once.
+#[tactic(auto, unfolding(crate::specs::Module::command_in))]
 pub fn decide(valid: bool, room: usize, block: &[u8]) -> Validated
     ensures { decided (validated_result result) ≡ decide_given valid room block.now }
 {
@@ -126,6 +129,7 @@ pub fn execute(mut state: ModuleState, block: &[u8], response: &mut [u8]) -> Exe
 }
 
 // Powers a module up: its working part is made from the stored one, RSSI is 80 80, events and flags are 00.
+#[tactic(auto, unfolding(crate::specs::Module::step, crate::specs::Module::result_of, crate::specs::Module::decide))]
 pub fn power_up(state: ModuleState) -> PowerUp
     ensures { (result.state ≡ step state power_up) × (powered_up result.refusal ≡ result_of state power_up) }
 {

@@ -1,5 +1,7 @@
 // The payload that a command is written as, composed from the command: document 01, "Frame" (payloads). The module gives it back in its
 // responses. An accepted command's is exactly the payload that it was parsed from.
+#![tactic(auto)]
+
 mod compose;
 
 ghost use Rattle.cdi_command.specs.Payload.{command_payload};
@@ -8,7 +10,7 @@ ghost use Rattle.cdi_payload.specs.Carried.{Carries};
 use cdi_command::{Command, ERASE_ALL, PAYLOAD_MAX, PROGRAM, READ, READ_NV, SET_DEFAULT, WRITE};
 
 // A command's payload: its bytes come first, and the bytes after them are free.
-#[derive(Drop)]
+#[derive(Clone, Copy)]
 pub struct Payload {
     pub bytes: [u8; PAYLOAD_MAX],
     pub length: usize,

@@ -1,5 +1,7 @@
 // The module's state (01's "module record"): document 01, "Items". It has three parts: what is stored, what the module works with, and
 // what is live. The settings are in the first two.
+#![tactic(auto)]
+
 ghost use Rattle.std.specs.Prelude.{◌+◌, ◌*◌, ◌≡◌, length};
 ghost use Rattle.logic.specs.Signed.{signed};
 ghost use Rattle.cdi_item.specs.Items.{input_count, slot_count};
@@ -27,7 +29,7 @@ pub const RSSI_NONE: u8 = 0x80;
 
 // A paired module (001's Paired Module Descriptor). Address 00 00 00 00 with mask 00 is an empty slot.
 #[repr(C)]
-#[derive(Drop)]
+#[derive(Clone, Copy)]
 pub struct Slot {
     pub address: [u8; ADDRESS_LENGTH],
     pub mask: u8,
@@ -35,7 +37,7 @@ pub struct Slot {
 
 // A row of item 16 (001's Analog Input Select). The offset has its high byte first.
 #[repr(C)]
-#[derive(Drop)]
+#[derive(Clone, Copy)]
 pub struct AnalogInput {
     pub channel: u8,
     pub readings: u8,
@@ -45,7 +47,7 @@ pub struct AnalogInput {
 
 // One copy of the settings, items 11 to 16 and 25.
 #[repr(C)]
-#[derive(Drop)]
+#[derive(Clone, Copy)]
 pub struct Settings {
     pub line_mask: u8,
     pub latch_mask: u8,
@@ -58,7 +60,7 @@ pub struct Settings {
 
 // The values that the hardware's pins select where the control source leaves them to the hardware.
 #[repr(C)]
-#[derive(Drop)]
+#[derive(Clone, Copy)]
 pub struct HardwareSelection {
     pub power: u8,
     pub line_mask: u8,
@@ -67,7 +69,7 @@ pub struct HardwareSelection {
 
 // What is kept without power (01's N): identity, settings and slots. An image holds exactly this.
 #[repr(C)]
-#[derive(Drop)]
+#[derive(Clone, Copy)]
 pub struct Stored {
     pub name: [u8; NAME_LENGTH],
     pub firmware: [u8; FIRMWARE_LENGTH],
@@ -79,14 +81,14 @@ pub struct Stored {
 
 // What the module works with (01's V): a power-up makes it from the stored part.
 #[repr(C)]
-#[derive(Drop)]
+#[derive(Clone, Copy)]
 pub struct Working {
     pub settings: Settings,
 }
 
 // What the controller sets (01's live cells): inputs, signal, events, flags and the hardware's pins.
 #[repr(C)]
-#[derive(Drop)]
+#[derive(Clone, Copy)]
 pub struct Live {
     pub lines: [u8; LINES_LENGTH],
     pub rssi: [u8; RSSI_LENGTH],
@@ -98,7 +100,7 @@ pub struct Live {
 
 // Everything that a module holds. Each field is a cell of the reference model, or holds some of its cells.
 #[repr(C)]
-#[derive(Drop)]
+#[derive(Clone, Copy)]
 pub struct ModuleState {
     pub stored: Stored,
     pub working: Working,

@@ -1,5 +1,7 @@
 // What a command and a power-up store in a state: document 01, "Items". A command is taken as it is; the module decides whether it is
 // accepted. A code that is no setting, or an index out of range, stores nothing.
+#![tactic(auto)]
+
 ghost use Rattle.std.specs.Prelude.{◌≡◌};
 ghost use Rattle.cdi_command.specs.Command.{validated_result};
 ghost use Rattle.cdi_store.specs.Store.{value_stored, state_for, stores_for, state_at_power_up};
@@ -9,13 +11,14 @@ use cdi_item::{InputNumber, SLOT_COUNT, Value, code};
 use cdi_state::{AnalogInput, ModuleState, RSSI_LENGTH, RSSI_NONE, Settings, Slot};
 
 // One setting of a copy: of one byte, by its item's code, or an input's row.
-#[derive(Drop)]
+#[derive(Clone, Copy)]
 enum SettingField {
     Byte(u8),
     Row(InputNumber),
 }
 
 // One copy of the settings with another value. A code that is no setting's and a number that is no input's change nothing.
+#[tactic(auto, unfolding(crate::specs::Store::setting_stored))]
 fn with_value(settings: Settings, setting: SettingField, value: Value) -> Settings
     ensures { result ≡ value_stored settings setting value }
 {
@@ -63,6 +66,7 @@ fn with_value(settings: Settings, setting: SettingField, value: Value) -> Settin
 }
 
 // The state after a payload that was validated: what is refused stores nothing.
+#[tactic(auto, unfolding(crate::specs::Store::setting_stored))]
 pub fn store(state: ModuleState, validated: Validated) -> ModuleState
     ensures { result ≡ state_for state (validated_result validated) }
 {

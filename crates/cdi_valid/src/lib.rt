@@ -1,5 +1,7 @@
 // Whether a state is valid: document 01, "Items". The item list says which values are accepted. The factory state is valid, and after a
 // power-up the stored part alone decides.
+#![tactic(auto)]
+
 ghost use Rattle.std.specs.Prelude.{◌≡◌, [], ◌∷◌};
 ghost use Rattle.logic.specs.Lists.{has_zero};
 ghost use Rattle.cdi_item.specs.Values.{accepted_value};
@@ -22,6 +24,7 @@ fn has_zero(name: [u8; NAME_LENGTH]) -> bool
 }
 
 // Whether an item accepts a byte as its value.
+#[tactic(auto, unfolding(cdi_item::specs::Values::accepted_value))]
 fn accepts_byte(item: u8, byte: u8) -> bool
     ensures { result ≡ accepted_value item (byte ∷ []) }
 {
@@ -87,6 +90,7 @@ fn is_valid_stored(stored: Stored) -> bool
 }
 
 // Whether commands and power-ups are accepted on the state (01's "sound").
+#[tactic(auto, unfolding(crate::specs::Valid::is_valid))]
 pub fn is_valid(state: ModuleState) -> bool
     ensures { result ≡ is_valid state }
 {

@@ -1,6 +1,8 @@
 // The value that a command reads: document 01, "Items". `read` writes it over the front of a buffer: for Read the working copy, for
 // Read NV the stored one, for any other command nothing. Nothing is written into less room than the longest value needs, and the bytes
 // after the value stay.
+#![tactic(auto)]
+
 ghost use Rattle.std.specs.Prelude.{◌≡◌, cond, [], ◌∷◌, ◌≤◌, length, take};
 ghost use Rattle.cdi_item.specs.Items.{row_length};
 ghost use Rattle.cdi_value.specs.Value.{name_shown, setting_value, status_shown, plain_value, row_value, value_into, value_max, value_room, Shows};
@@ -48,6 +50,7 @@ fn select(left: bool, a: u8, b: u8) -> u8
 const STATUS_LENGTH: usize = 4;
 
 // Item 23.
+#[tactic(auto, unfolding(crate::specs::Value::status_shown))]
 fn status(
     settings: Settings,
     hardware: HardwareSelection,
@@ -97,6 +100,7 @@ fn show_byte(byte: u8, out: &mut [u8]) -> usize
 }
 
 // The byte of an item in one copy of the settings; nothing for a code that is no setting's.
+#[tactic(auto, unfolding(crate::specs::Value::setting_value))]
 fn show_setting(settings: Settings, item: u8, out: &mut [u8]) -> usize
     requires { value_max ≤ length out.old }
     ensures { Shows value_max (setting_value settings item) out.old out.new result }
@@ -123,6 +127,7 @@ fn show_setting(settings: Settings, item: u8, out: &mut [u8]) -> usize
 }
 
 // The value of an item that has no index, its settings from one copy.
+#[tactic(auto, unfolding(crate::specs::Value::status_shown, crate::specs::Value::plain_value))]
 fn read_plain(state: ModuleState, settings: Settings, item: u8, out: &mut [u8]) -> usize
     requires { value_max ≤ length out.old }
     ensures { Shows value_max (plain_value state settings item) out.old out.new result }

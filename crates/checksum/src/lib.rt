@@ -1,9 +1,12 @@
 // What guards a packet: document 02, Asks 10 and 11. The radios differ in the first and the last byte and in the byte at which the sum
 // begins, so these are arguments. What a writer puts at the end passes the reader's test, and a change of one summed byte does not.
+#![tactic(auto)]
+
 ghost use Rattle.std.specs.Prelude.{◌≡◌};
 ghost use Rattle.checksum.specs.Checksum.{sum_from, sum_holds, ends_hold};
 
 // The sum of the bytes from place `start` on, the carry out of eight bits dropped; 0 if there is none.
+#[tactic(auto, unfolding(crate::specs::Checksum::byte_sum))]
 pub fn sum_from(start: usize, bytes: &[u8]) -> u8
     ensures { result ≡ sum_from start bytes.now }
 {

@@ -1,4 +1,6 @@
 // The entries of include/coyote.h, which says what each reads and writes. No enum crosses the C boundary.
+#![tactic(auto)]
+
 ghost use Rattle.std.specs.Prelude.{◌≡◌, length};
 ghost use Rattle.refusal.specs.Refusal.{outcome_of, buffer_after};
 ghost use Rattle.coyote_packet.specs.Layout.{addressed, read_mem, success, failure};
@@ -15,7 +17,7 @@ use refusal::{NONE, Outcome};
 
 // What was imported from a block: coyote_charge of the header.
 #[repr(C)]
-#[derive(Drop)]
+#[derive(Clone, Copy)]
 pub struct ChargeFields {
     pub refusal: u8,
     pub input: u8,

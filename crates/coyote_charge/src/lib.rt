@@ -1,5 +1,7 @@
 // The charge of a pack between the yards: document 02, Ask 10. `export_charge` writes an analog input's number and readout as a NoAckData
 // packet, and `import_charge` gives both back. The number is an `InputNumber`, so no slot index can take its place.
+#![tactic(auto)]
+
 ghost use Rattle.std.specs.Prelude.{◌≡◌, ◌+◌, ◌≤◌, length};
 ghost use Rattle.refusal.specs.Refusal.{outcome_of, buffer_after};
 ghost use Rattle.coyote_charge.specs.Charge.{imported_result, export_charge, charge_from, import_charge};
@@ -12,14 +14,14 @@ use refusal::{NONE, Outcome, PACKET_CONTENT};
 const CHARGE_LENGTH: usize = 3;
 
 // An analog input and its 16-bit readout.
-#[derive(Drop)]
+#[derive(Clone, Copy)]
 pub struct Charge {
     pub input: InputNumber,
     pub readout: u16,
 }
 
 // What was imported from a block.
-#[derive(Drop)]
+#[derive(Clone, Copy)]
 pub enum Imported {
     Accepted(Charge),
     // The number of the refusal.
@@ -28,6 +30,7 @@ pub enum Imported {
 
 // Writes the charge of an input as NoAckData with this sequence number, from the source to the targets, which are bytes: group and address in
 // turn.
+#[tactic(auto, unfolding(crate::specs::Charge::export_charge))]
 pub fn export_charge(
     sequence: u8,
     group: u8,

@@ -1,5 +1,7 @@
 // The reader of Coyote XL packets: document 02, Ask 10. `decode` accepts exactly a packet of the layout and says what it holds. It refuses any
 // other block with 24, 25, 26 or 27, in this order.
+#![tactic(auto)]
+
 ghost use Rattle.std.specs.Prelude.{◌≡◌, ◌+◌, ◌<◌, ◌≤◌, length};
 ghost use Rattle.coyote_packet.specs.Layout.{targets_max};
 ghost use Rattle.coyote_packet.specs.Read.{overhead, decoded_result, addressed_case, word_at, addressed_with, read_addressed, read_memory, read_success, read_failure, read_payload, read_summed, read_packet};
@@ -64,6 +66,7 @@ fn read_data(kind: u8, payload: &[u8], count: usize) -> Decoded
 }
 
 // AckData, NoAckData and Ack: the source, the targets, and what follows them.
+#[tactic(auto, unfolding(coyote_packet::specs::Read::read_addressed))]
 fn read_addressed(kind: u8, payload: &[u8]) -> Decoded
     ensures { decoded_result result ≡ read_addressed kind payload.now }
 {
@@ -81,6 +84,7 @@ fn read_addressed(kind: u8, payload: &[u8]) -> Decoded
 }
 
 // ReadMem: the memory space, the address and how many bytes are asked for.
+#[tactic(auto, unfolding(coyote_packet::specs::Read::read_memory))]
 fn read_memory(payload: &[u8]) -> Decoded
     ensures { decoded_result result ≡ read_memory payload.now }
 {
@@ -101,6 +105,7 @@ fn read_memory(payload: &[u8]) -> Decoded
 }
 
 // Success: the type of the request, the length of the data, the data.
+#[tactic(auto, unfolding(coyote_packet::specs::Read::read_success))]
 fn read_success(payload: &[u8]) -> Decoded
     ensures { decoded_result result ≡ read_success payload.now }
 {
@@ -122,6 +127,7 @@ fn read_success(payload: &[u8]) -> Decoded
 }
 
 // Failure: the type of the request, the length 1, the code.
+#[tactic(auto, unfolding(coyote_packet::specs::Read::read_failure))]
 fn read_failure(payload: &[u8]) -> Decoded
     ensures { decoded_result result ≡ read_failure payload.now }
 {
@@ -142,6 +148,7 @@ fn read_failure(payload: &[u8]) -> Decoded
 }
 
 // The payload of a packet, by the packet's type.
+#[tactic(auto, unfolding(coyote_packet::specs::Read::read_payload))]
 fn read_payload(kind: u8, payload: &[u8]) -> Decoded
     ensures { decoded_result result ≡ read_payload kind payload.now }
 {
@@ -169,6 +176,7 @@ fn read_summed(block: &[u8]) -> Decoded
 }
 
 // Reads a block as exactly one packet.
+#[tactic(auto, unfolding(coyote_packet::specs::Read::read_packet))]
 pub fn decode(block: &[u8]) -> Decoded
     ensures { decoded_result result ≡ read_packet block.now }
 {

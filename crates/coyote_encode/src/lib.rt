@@ -1,6 +1,8 @@
 // The writers of Coyote XL packets: document 02, Ask 10. Each writes the packet of what it is given over the front of a buffer; the bytes after
 // the packet stay. They refuse with 27, then 13 for a buffer that is shorter than this packet. What is written is read as exactly what
 // was given.
+#![tactic(auto)]
+
 ghost use Rattle.std.specs.Prelude.{◌≡◌, [], ◌∷◌, ◌++◌, ◌+◌, ◌≤◌, length};
 ghost use Rattle.logic.specs.Lists.{part};
 ghost use Rattle.logic.specs.Written.{written, Writes};
@@ -39,6 +41,7 @@ fn put_addresses(group: u8, address: u8, targets: &[u8], out: &mut [u8]) -> usiz
 }
 
 // Writes the payload of AckData, NoAckData or Ack.
+#[tactic(auto, unfolding(coyote_packet::specs::Layout::payload_of))]
 fn put_addressed(
     kind: u8,
     group: u8,
@@ -56,6 +59,7 @@ fn put_addressed(
 }
 
 // Writes the payload of ReadMem.
+#[tactic(auto, unfolding(coyote_packet::specs::Layout::payload_of))]
 fn put_read_memory(space: u8, address: u16, size: u16, out: &mut [u8]) -> usize
     requires { 5 ≤ length out.old }
     ensures { Writes (payload_of (read_mem space address size)) out.old out.new result }
@@ -69,6 +73,7 @@ fn put_read_memory(space: u8, address: u16, size: u16, out: &mut [u8]) -> usize
 }
 
 // Writes the payload of Success.
+#[tactic(auto, unfolding(coyote_packet::specs::Layout::payload_of))]
 fn put_success(request: u8, content: &[u8], out: &mut [u8]) -> usize
     requires { (length content.now ≤ data_max) × (3 + length content.now ≤ length out.old) }
     ensures { Writes (payload_of (success request content.now)) out.old out.new result }
@@ -79,6 +84,7 @@ fn put_success(request: u8, content: &[u8], out: &mut [u8]) -> usize
 }
 
 // Writes the payload of Failure.
+#[tactic(auto, unfolding(coyote_packet::specs::Layout::payload_of))]
 fn put_failure(request: u8, code: u8, out: &mut [u8]) -> usize
     requires { 4 ≤ length out.old }
     ensures { Writes (payload_of (failure request code)) out.old out.new result }
@@ -111,6 +117,7 @@ fn enclose(kind: u8, size: u16, packet: &mut [u8]) -> Outcome
 }
 
 // Writes AckData, NoAckData or Ack, by its type, from the source to the targets, which are bytes: group and address in turn.
+#[tactic(auto, unfolding(coyote_packet::specs::Layout::is_accepted))]
 pub fn encode_addressed(
     kind: u8,
     group: u8,
@@ -146,6 +153,7 @@ pub fn encode_addressed(
 }
 
 // Writes a ReadMem for so many bytes of a memory space from an address on.
+#[tactic(auto, unfolding(coyote_packet::specs::Layout::is_accepted, coyote_packet::specs::Layout::payload_of))]
 pub fn encode_read_memory(space: u8, address: u16, size: u16, packet: &mut [u8]) -> Outcome
     ensures { (result ≡ outcome_of (encode (read_mem space address size) (length packet.old)))
         × (packet.new ≡ buffer_after (encode (read_mem space address size) (length packet.old)) packet.old) }
@@ -161,6 +169,7 @@ pub fn encode_read_memory(space: u8, address: u16, size: u16, packet: &mut [u8])
 }
 
 // Writes a Success: the answer to a request of that type, with data.
+#[tactic(auto, unfolding(coyote_packet::specs::Layout::is_accepted, coyote_packet::specs::Layout::payload_of))]
 pub fn encode_success(request: u8, content: &[u8], packet: &mut [u8]) -> Outcome
     ensures { (result ≡ outcome_of (encode (success request content.now) (length packet.old)))
         × (packet.new ≡ buffer_after (encode (success request content.now) (length packet.old)) packet.old) }
@@ -176,6 +185,7 @@ pub fn encode_success(request: u8, content: &[u8], packet: &mut [u8]) -> Outcome
 }
 
 // Writes a Failure: the answer to a request of that type, with its code.
+#[tactic(auto, unfolding(coyote_packet::specs::Layout::is_accepted, coyote_packet::specs::Layout::payload_of))]
 pub fn encode_failure(request: u8, code: u8, packet: &mut [u8]) -> Outcome
     ensures { (result ≡ outcome_of (encode (failure request code) (length packet.old)))
         × (packet.new ≡ buffer_after (encode (failure request code) (length packet.old)) packet.old) }

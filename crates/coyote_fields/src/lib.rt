@@ -1,5 +1,7 @@
 // What was read from a block as one struct of numbers, for callers that no enum reaches, as those in C are. Fields that the packet does not have
 // are 0, and after a refusal all are.
+#![tactic(auto)]
+
 ghost use Rattle.std.specs.Prelude.{◌≡◌, ◌≤◌};
 ghost use Rattle.coyote_packet.specs.Layout.{ack_type};
 ghost use Rattle.coyote_packet.specs.Read.{read_packet};
@@ -13,7 +15,7 @@ use refusal::NONE;
 
 // The number of the refusal or 0, and the packet's type and fields.
 #[repr(C)]
-#[derive(Drop)]
+#[derive(Clone, Copy)]
 pub struct PacketFields {
     pub refusal: u8,
     pub kind: u8,

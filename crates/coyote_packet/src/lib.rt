@@ -1,6 +1,8 @@
 // The packets of a Coyote XL radio, as they are laid out and as they are read: document 003 and document 02, Ask 10. What a packet holds is
 // an enum over structs of numbers. Targets and data are places in the block that was read. The laws of this crate say that a packet
 // of the layout is read as what it holds, and that a block that is read is a packet of the layout.
+#![tactic(auto)]
+
 ghost use Rattle.std.specs.Prelude.{◌≡◌};
 ghost use Rattle.coyote_packet.specs.Layout.{targets_before, fit_targets, data_most, fit_data, fit_memory};
 
@@ -61,7 +63,7 @@ pub const FAILURE_CODE_MAX: u8 = 5;
 
 // What AckData, NoAckData and Ack hold. SrcLoc is `source_group` and `source_address`. Of DestLoc, target i has its group at byte
 // 6 + 2 * i of the block and its address after it. Data lies at `data_start`; an Ack's one byte is its Retries.
-#[derive(Drop)]
+#[derive(Clone, Copy)]
 pub struct Addressed {
     pub sequence: u8,
     pub source_group: u8,
@@ -72,7 +74,7 @@ pub struct Addressed {
 }
 
 // What ReadMem asks for: MemSpace, Addr and Len.
-#[derive(Drop)]
+#[derive(Clone, Copy)]
 pub struct MemoryRead {
     pub space: u8,
     pub address: u16,
@@ -80,7 +82,7 @@ pub struct MemoryRead {
 }
 
 // What Success holds: ReqType, and where Data lies.
-#[derive(Drop)]
+#[derive(Clone, Copy)]
 pub struct Succeeded {
     pub request_type: u8,
     pub data_start: usize,
@@ -88,14 +90,14 @@ pub struct Succeeded {
 }
 
 // What Failure holds: ReqType and FailCode.
-#[derive(Drop)]
+#[derive(Clone, Copy)]
 pub struct Failed {
     pub request_type: u8,
     pub code: u8,
 }
 
 // A packet that was read, by 003's names.
-#[derive(Drop)]
+#[derive(Clone, Copy)]
 pub enum Packet {
     AckData(Addressed),
     NoAckData(Addressed),
@@ -106,7 +108,7 @@ pub enum Packet {
 }
 
 // What was read from a block.
-#[derive(Drop)]
+#[derive(Clone, Copy)]
 pub enum Decoded {
     // One whole packet.
     Accepted(Packet),

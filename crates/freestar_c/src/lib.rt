@@ -1,5 +1,7 @@
 // The entries of include/freestar.h, which says what each reads and writes. No enum crosses the C boundary. The settings stay where the
 // caller has them and are updated there: `freestar_execute` calls `execute` with their value and stores the settings of its result.
+#![tactic(auto)]
+
 ghost use Rattle.std.specs.Prelude.{◌≡◌, length};
 ghost use Rattle.refusal.specs.Refusal.{outcome_of, buffer_after};
 ghost use Rattle.freestar_packet.specs.Read.{read_packet};
@@ -14,7 +16,7 @@ use refusal::{NONE, Outcome};
 
 // What was read from a block: freestar_message of the header.
 #[repr(C)]
-#[derive(Drop)]
+#[derive(Clone, Copy)]
 pub struct MessageFields {
     pub refusal: u8,
     pub kind: u8,

@@ -1,5 +1,7 @@
 // The reader of Wi.Freestar messages: document 02, Ask 11. `decode` accepts exactly a packet of the layout and says what it holds. It refuses
 // any other block with 24, 25, 26, 27 or 28, in this order. `read_frame` has 24, 25 and 26 alone, for callers that serve other types.
+#![tactic(auto)]
+
 ghost use Rattle.std.specs.Prelude.{◌≡◌};
 ghost use Rattle.freestar_packet.specs.Read.{decoded_result, read_frame, read_packet};
 
@@ -7,6 +9,7 @@ use freestar_packet::{DATA_START, Decoded, END, Message, OVERHEAD, START, SUM_ST
 use refusal::{PACKET_CONTENT, PACKET_ENDS, PACKET_LENGTH, PACKET_SUM, PAN_ID_OVER};
 
 // Reads a block as exactly one packet, of whatever type.
+#[tactic(auto, unfolding(freestar_packet::specs::Read::read_frame))]
 pub fn read_frame(block: &[u8]) -> Decoded
     ensures { decoded_result result ≡ read_frame block.now }
 {
@@ -29,6 +32,7 @@ pub fn read_frame(block: &[u8]) -> Decoded
 }
 
 // Reads a block as exactly one message of the types that are served.
+#[tactic(auto, unfolding(freestar_packet::specs::Read::read_packet))]
 pub fn decode(block: &[u8]) -> Decoded
     ensures { decoded_result result ≡ read_packet block.now }
 {

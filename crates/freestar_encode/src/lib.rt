@@ -1,6 +1,8 @@
 // The writer of Wi.Freestar messages: document 02, Ask 11. It writes the packet of a type and data over the front of a buffer; the bytes after
 // the packet stay. It refuses with 27, 28, then 13 for a buffer that is shorter than this packet. What is written is read as exactly what
 // was given.
+#![tactic(auto)]
+
 ghost use Rattle.std.specs.Prelude.{◌≡◌, ◌+◌, ◌≤◌, length};
 ghost use Rattle.logic.specs.Written.{Writes};
 ghost use Rattle.refusal.specs.Refusal.{outcome_of, buffer_after};
@@ -12,6 +14,7 @@ use freestar_packet::{DATA_START, END, OVERHEAD, START, SUM_START};
 use refusal::{FRAME_BUFFER_SHORT, NONE, Outcome, PACKET_CONTENT, PAN_ID_OVER};
 
 // Writes the packet of a type and data, and returns its length.
+#[tactic(auto, unfolding(freestar_packet::specs::Layout::packet_bytes))]
 fn put_packet(kind: u8, content: &[u8], packet: &mut [u8]) -> usize
     requires { (length content.now ≤ data_max) × (overhead + length content.now ≤ length packet.old) }
     ensures { Writes (packet_bytes kind content.now) packet.old packet.new result }
@@ -27,6 +30,7 @@ fn put_packet(kind: u8, content: &[u8], packet: &mut [u8]) -> usize
 }
 
 // Writes a message of a type that is served.
+#[tactic(auto, unfolding(freestar_packet::specs::Encode::encode))]
 pub fn encode(kind: u8, content: &[u8], packet: &mut [u8]) -> Outcome
     ensures { (result ≡ outcome_of (encode kind content.now (length packet.old)))
         × (packet.new ≡ buffer_after (encode kind content.now (length packet.old)) packet.old) }

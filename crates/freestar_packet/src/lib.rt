@@ -1,6 +1,8 @@
 // The messages of a Wi.Freestar radio, as they are laid out and as they are read: document 004 and document 02, Ask 11. The data of a message
 // are places in the block that was read. The laws of this crate say that a packet of the layout is read as what it holds, and that a
 // block that is read is a packet of the layout.
+#![tactic(auto)]
+
 ghost use Rattle.std.specs.Prelude.{◌≡◌};
 ghost use Rattle.freestar_packet.specs.Layout.{requests, types, fits_in, is_pan_id, has_pan_id, pan_id_holds};
 
@@ -59,14 +61,14 @@ pub const SUM_START: usize = 0;
 pub const PAN_ID_LIMIT: u16 = 0x4000;
 
 // A message that was read: its type, and how many bytes of data it has from byte 3 of its block on.
-#[derive(Drop)]
+#[derive(Clone, Copy)]
 pub struct Message {
     pub kind: u8,
     pub data_length: u8,
 }
 
 // What was read from a block.
-#[derive(Drop)]
+#[derive(Clone, Copy)]
 pub enum Decoded {
     // One whole message.
     Accepted(Message),
@@ -75,6 +77,7 @@ pub enum Decoded {
 }
 
 // Whether messages of this type are served and have so many bytes of data.
+#[tactic(auto, unfolding(crate::specs::Layout::fits_in))]
 pub fn fits(kind: u8, size: usize) -> bool
     ensures { result ≡ fits_in types kind size }
 {

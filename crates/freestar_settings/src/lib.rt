@@ -1,5 +1,7 @@
 // The settings of a Wi.Freestar radio, and a message executed on them: document 02, Ask 11. The theorem on sequences of messages is about
 // `execute`.
+#![tactic(auto)]
+
 ghost use Rattle.std.specs.Prelude.{◌≡◌, true, length};
 ghost use Rattle.refusal.specs.Refusal.{outcome_of, buffer_after};
 ghost use Rattle.freestar_packet.specs.Layout.{requests, fits_in, pan_id_fits};
@@ -17,7 +19,7 @@ use refusal::{NONE, Outcome, PACKET_CONTENT, PAN_ID_OVER};
 
 // The settings, each in the order of its bytes in a message: the low byte first.
 #[repr(C)]
-#[derive(Drop)]
+#[derive(Clone, Copy)]
 pub struct Settings {
     pub pan_id: [u8; 2],
     pub long_address: [u8; 8],
@@ -37,13 +39,14 @@ impl Settings {
 
 // What came of a message: the settings after it, and the refusal or the length of the answer.
 #[repr(C)]
-#[derive(Drop)]
+#[derive(Clone, Copy)]
 pub struct Executed {
     pub settings: Settings,
     pub outcome: Outcome,
 }
 
 // Accepts a block as a message from the host, or gives the number of its refusal: 24 to 28. The room for the answer is not looked at.
+#[tactic(auto, unfolding(crate::specs::Settings::validate))]
 fn accept(settings: Settings, block: &[u8]) -> Decoded
     ensures { decoded_result result ≡ validate settings block.now }
 {
@@ -103,6 +106,7 @@ fn addresses(settings: Settings) -> [u8; 10]
 }
 
 // The settings after a message of this type with these data.
+#[tactic(auto, unfolding(crate::specs::Settings::stored))]
 fn store(mut settings: Settings, kind: u8, content: &[u8]) -> Settings
     requires { fits_in requests kind (length content.now) ≡ true }
     ensures { result ≡ stored settings kind content.now }
@@ -132,6 +136,7 @@ fn store(mut settings: Settings, kind: u8, content: &[u8]) -> Settings
 }
 
 // Executes one message on settings: decides on it, answers, and stores. A refusal changes no byte of `response` and nothing in the settings.
+#[tactic(auto, unfolding(crate::specs::Settings::step, crate::specs::Settings::result_of))]
 pub fn execute(settings: Settings, block: &[u8], response: &mut [u8]) -> Executed
     ensures { (result.settings ≡ step settings (delivery block.now (length response.old)))
         × (result.outcome ≡ outcome_of (result_of settings (delivery block.now (length response.old))))

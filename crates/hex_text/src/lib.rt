@@ -1,5 +1,7 @@
 // Lines of upper-case hex pairs parted by one space: document 01, "Examples". A line of a text is read into a block of at most 200 bytes,
 // or into nothing, and its end is found.
+#![tactic(auto)]
+
 ghost use Rattle.std.specs.Prelude.{◌≡◌, true, ◌+◌, ◌*◌, ◌<◌, ◌≤◌, length, drop};
 ghost use Rattle.hex_text.specs.Scan.{is_block, spaced, is_line_end, last_pair};
 ghost use Rattle.hex_text.specs.Hex.{is_digit, is_pair, pairs, line_from, line_end, hex_line, hex_line_for, line_written};
@@ -12,7 +14,7 @@ pub const SPACE: u8 = b' ';
 pub const LINE_FEED: u8 = b'\n';
 
 // What a line is.
-#[derive(Drop)]
+#[derive(Clone, Copy)]
 pub enum HexLine {
     // A block of so many bytes, which stand at the buffer's front.
     Block(usize),
@@ -99,7 +101,7 @@ fn read_pairs(line: &[u8], block: &mut [u8]) -> HexLine
 }
 
 // A line of a text: what it is, and the place of its line feed, or of the text's end where it has none.
-#[derive(Drop)]
+#[derive(Clone, Copy)]
 pub struct LineAt {
     pub line: HexLine,
     pub end: usize,

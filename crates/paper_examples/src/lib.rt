@@ -1,1 +1,2 @@
 // The proved examples of document 01, as one table under one statement about the definitions. It has no code.
+#![tactic(auto)]

@@ -1,5 +1,7 @@
 // Functions that no C entry shows, with the C ABI, for the tests that compare them with an independent implementation. It adds nothing:
 // each function hands its arguments on and turns an enum into numbers.
+#![tactic(auto)]
+
 ghost use Rattle.std.specs.Prelude.{◌≡◌, length};
 ghost use Rattle.logic.specs.Written.{written, length_in, written_in};
 ghost use Rattle.hex_text.specs.Hex.{line_from, line_end, hex_line, hex_line_for, line_written};
@@ -23,7 +25,7 @@ const NO_ROOM: u8 = 2;
 
 // The answer to a line, the block's length, 0 where there is no block, and the place where the line ends.
 #[repr(C)]
-#[derive(Drop)]
+#[derive(Clone, Copy)]
 pub struct LineProbe {
     pub answer: u8,
     pub length: usize,

@@ -3,6 +3,8 @@
 //
 // `replay_lines` has the text for the lines of an input. The program reads the input piece by piece, keeps what it has to of a line
 // whose end is still to be read, and prints what is answered before it reads on.
+#![tactic(auto)]
+
 ghost use Rattle.std.specs.Prelude.{◌≡◌, ◌+◌, ◌<◌, ◌≤◌, length, take, drop};
 ghost use Rattle.replay_text.specs.Session.{kept_max, kept_of};
 ghost use Rattle.logic.specs.Lists.{between};
@@ -19,14 +21,14 @@ use replay_lines::PRINTED_MAX;
 const KEPT_MAX: usize = LINE_MAX + 1;
 
 // The result of a read: how many bytes it gave, and whether it failed. If it gave none and did not fail, the input has ended.
-#[derive(Drop)]
+#[derive(Clone, Copy)]
 struct Piece {
     count: usize,
     failed: bool,
 }
 
 // How much of the input buffer holds characters after a read, and the read's result.
-#[derive(Drop)]
+#[derive(Clone, Copy)]
 struct Filled {
     end: usize,
     count: usize,
@@ -36,7 +38,7 @@ struct Filled {
 // What goes from one turn to the next: the state, which part of the input buffer is not answered yet, and whether the input has ended
 // after it. The rest says how the turn went: whether all is done, whether the text was printed, and the result of the read. No turn
 // follows one that is done or failed.
-#[derive(Drop)]
+#[derive(Clone, Copy)]
 struct Session {
     state: ModuleState,
     start: usize,

@@ -1,5 +1,7 @@
 // The replay program's work without its reading and printing: the lines of an input executed on a module one after the other, and
 // the text that is printed for them. Document 01, "Examples".
+#![tactic(auto)]
+
 ghost use Rattle.std.specs.Prelude.{◌≡◌, ◌≤◌, length};
 ghost use Rattle.logic.specs.Written.{written};
 ghost use Rattle.response_text.specs.Text.{not_hex_text};
@@ -26,7 +28,7 @@ pub const PRINTED_MAX: usize = 3 * RESPONSE_BUFFER_MIN;
 // What came of the lines of an input: the state after them, how many of the input's bytes they are, with their line feeds, and how
 // many bytes of the output are printed for them.
 #[repr(C)]
-#[derive(Drop)]
+#[derive(Clone, Copy)]
 pub struct Progress {
     pub state: ModuleState,
     pub consumed: usize,

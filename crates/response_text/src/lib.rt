@@ -1,5 +1,7 @@
 // The lines that the replay program prints: document 01, "Examples". Each function writes one line over the front of a buffer if it
 // fits, and nothing if it does not. A block of at most 200 bytes that is written is read back.
+#![tactic(auto)]
+
 ghost use Rattle.std.specs.Prelude.{◌≡◌, [], ◌∷◌, ◌+◌, ◌*◌, ◌/◌, ◌%◌, ◌<◌, ◌≤◌, length};
 ghost use Rattle.std.proofs.lemmas.List.Edits.{sets};
 ghost use Rattle.logic.specs.Written.{written, length_in, written_in};
