@@ -6,7 +6,7 @@ ghost use Rattle.std.specs.Prelude.{◌≡◌};
 ghost use Rattle.checksum.specs.Checksum.{sum_from, sum_holds, ends_hold};
 
 // The sum of the bytes from place `start` on, the carry out of eight bits dropped; 0 if there is none.
-#[tactic(auto, unfolding(crate::specs::Checksum::byte_sum))]
+#[tactic(auto, using(crate::proofs::Sums::sum_is_byte), unfolding(crate::specs::Checksum::byte_sum))]
 pub fn sum_from(start: usize, bytes: &[u8]) -> u8
     ensures { result ≡ sum_from start bytes.now }
 {
