@@ -17,7 +17,7 @@ import sys
 import traffic
 
 ROOT = pathlib.Path(__file__).resolve().parent.parent
-REPLAY = ROOT / "target" / "bin" / "replay"
+REPLAY = ROOT / "crates" / "replay" / "out" / "replay"
 
 Plan = collections.namedtuple("Plan", "megabytes rounds growth calls call_rounds")
 FULL = Plan(100, 7, growth=(1, 10, 50, 100, 200), calls=300_000, call_rounds=31)

@@ -30,9 +30,14 @@ def quoted(names):
     return ", ".join(f"`{name}`" for name in names)
 
 
+def depends():
+    """The crates in the order of crates.txt, each with the crates that it depends on. A static library has a word before the colon."""
+    found = re.findall(r"^(\w+)(?: \w+)*:(.*)$", read("crates.txt"), re.M)
+    return {name: others.split() for name, others in found}
+
+
 def crates():
-    """The crates in the order of crates.txt."""
-    return [line.split(":")[0] for line in read("crates.txt").split("\n") if re.match(r"\w+:", line)]
+    return list(depends())
 
 
 # ---- Items of a source -----------------------------------------------------------------------
@@ -145,15 +150,17 @@ def enclosed(text, start, opening, closing):
 
 
 def clauses(text, *words):
-    """The texts of the clauses that begin with one of these words, as `ensures { .. }`."""
-    for found in re.finditer(r"^\s*(?:%s)\b\s*(\{)" % "|".join(words), text, re.M):
+    """The texts of the clauses that begin with one of these words, as `ensures { .. }` or `ensures name { .. }`."""
+    for found in re.finditer(r"^\s*(?:%s)\b\s*(?:\w+\s*)?(\{)" % "|".join(words), text, re.M):
         yield enclosed(text, found.start(1), "{", "}") or ""
 
 
 def imports(source):
     """The names that a source brings in from definitions of this repository, each with the file of the definition: None for a type's variant."""
     found = {}
-    for crate, module, names in re.findall(r"^ghost use Rattle·(\w+?)(?:·specs)?\.specs\.([^{]+)\.\{([^}]*)\};", source, re.M):
+    for crate, module, names in re.findall(r"^ghost use Rattle\.(\w+)\.specs\.([^{]+)\.\{([^}]*)\};", source, re.M):
+        if crate == "std":
+            continue
         path = None if module.startswith("declared.") else f"crates/{crate}/specs/{module}.antt"
         for name in names.split(","):
             found[name.split(" as ")[-1].strip()] = path
@@ -162,7 +169,7 @@ def imports(source):
 
 def words_of(text):
     """The names in a contract: not the fields, which follow a point."""
-    return re.findall(r"(?<![\w.«])«?([^\W\d][\w′']*)»?", text)
+    return re.findall(r"(?<![\w.«])«?([^\W\d][\w']*)»?", text)
 
 
 def cited(text, known):
@@ -197,11 +204,8 @@ def conjuncts(fact):
 
 
 def stated(head):
-    """The name of the result and the conjuncts of an `ensures`: an empty name and none where its form is another."""
-    found = [re.fullmatch(r"\s*(?:λ (\S+)\.)?\s*⌜(.*)⌝\s*", clause, re.S) for clause in clauses(head, "ensures")]
-    if len(found) != 1 or not found[0]:
-        return "", []
-    return found[0].group(1) or "", conjuncts(found[0].group(2))
+    """The conjuncts of what a contract ensures."""
+    return [fact for clause in clauses(head, "ensures") for fact in conjuncts(clause) if fact]
 
 
 def parameters(head):
@@ -217,13 +221,13 @@ def parameters(head):
 
 def leaves(text, name):
     """Whether a text speaks of what a call leaves in a parameter."""
-    return re.search(rf"(?<![\w.])«?{name}»? \.exit(?!\w)", text) is not None
+    return re.search(rf"(?<![\w.])«?{name}»?\.new(?!\w)", text) is not None
 
 
-def subjects(conjunct, result, given):
+def subjects(conjunct, given):
     """What a conjunct speaks of: the result, with the fields that it names, and the parameters that are written to; where it speaks of
     neither, the parameters."""
-    paths = re.findall(rf"(?<![\w.]){result}((?: \.\w+)*)(?!\w)", conjunct) if result else []
+    paths = re.findall(r"(?<![\w.])result((?:\.\w+)*)(?!\w)", conjunct)
     fields = [path.split(".")[-1] for path in paths]
     found = ["result" + (f" ({quoted(dict.fromkeys(fields))})" if all(fields) else "")] if paths else []
     found += [f"`{name}`" for name, _ in given if leaves(conjunct, name)]
@@ -321,7 +325,7 @@ can no longer be proved:
 - `loop-again` is the fact that a loop keeps its invariant.
 - A name that ends in -requires is what the called function asks of its arguments.
 - `told`, in `cdi_c` and `freestar_c`, is the fact that what the function by value says of its result is what the entry says of the struct in place.
-- `runs-hold`, in `cdi_model`, computes whole runs of the model on literal bytes; `table-unpadded` computes that the table names no cell too many.
+- `runs_hold`, in `cdi_model`, computes whole runs of the model on literal bytes; `table_unpadded` computes that the table names no cell too many.
 """
 
 
@@ -333,12 +337,11 @@ def table(*rows):
 
 def function_rows(function):
     """A row for each conjunct of a contract; the first has the function's name."""
-    result, facts = stated(function.item.head)
     given = parameters(function.item.head)
-    for number, fact in enumerate(facts):
+    for number, fact in enumerate(stated(function.item.head)):
         name = "" if number else f"`{function.item.name}`"
         # A fact without a definition says that the result is a parameter as it was given.
-        yield name, ", ".join(subjects(fact, result, given)), quoted(cited(fact, function.known)) or "none: it is a parameter as it was given"
+        yield name, ", ".join(subjects(fact, given)), quoted(cited(fact, function.known)) or "none: it is a parameter as it was given"
 
 
 def section(crate):

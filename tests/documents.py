@@ -9,7 +9,9 @@ What is in backticks is one of these, by the first rule that applies:
 - A path: it has a slash, or ends as a file does that the repository keeps (ENDINGS). It exists: relative to the root, to crates/,
   or to the folder or the crate of what the same passage names before it. A file's name alone exists if some file has it. A path
   that begins with src/, specs/, proofs/ or must-fail/ exists if some crate has it and no crate is named before it. In a path `*`,
-  NAME, CRATE and a part of one capital letter stand for anything. What is under target/ is built, and is not looked for.
+  NAME, CRATE and a part of one capital letter stand for anything. What is under target/ or an out/ is built, and is not looked for.
+- A goal: what the prover calls a fact that it has to find a proof of, by its form (GOAL). It is in no source where the prover finds the
+  proof alone.
 - A name: all else, and a file that ends as a built one does (BUILT). It is a whole word of a source, not only of a comment or an
   import, or the name of a file or a folder. `a::b` is in the sources of the crate a, or both parts are in one source. After the
   path of a source in the same passage a name is in that source, and before `in` or a bracket and a path or a crate it is there.
@@ -57,6 +59,10 @@ NAME = re.compile(r"[A-Za-z_][\w\-·′.]*(?:::\w+)*")
 PATH = re.compile(r"(?:\.\.?/)?[\w*.][\w*.\-]*(?:/[\w*.\-]+)*/?")
 HEX = re.compile(r"(?:[0-9A-F]{2})+")
 ID = re.compile(r"[A-Z]+-[0-9]+")
+GOAL = re.compile(
+    r"returns(?:-[\w\-]+)?|ensures-\w+|[\w\-]+-(?:init|preserved|smaller|requires(?:-[\w\-]+)?)"
+    r"|(?:overflow|nonzero)_\w+-[\w\-]+|(?:slice_|offset_)?bounds-[\w\-]+|invariant_of-[\w\-]+|prove-[\w\-]+"
+)
 ANYTHING = re.compile(r"NAME|CRATE|(?<![^/])[A-Z](?![^/])")
 
 
@@ -82,7 +88,7 @@ def files():
     """The files of the repository from the root on, without what is built."""
     found = []
     for folder, folders, names in os.walk(ROOT):
-        folders[:] = sorted(name for name in folders if name not in (".git", "target", "__pycache__"))
+        folders[:] = sorted(name for name in folders if name not in (".git", "target", "out", "__pycache__"))
         found += [os.path.relpath(os.path.join(folder, name), ROOT) for name in sorted(names)]
     return tuple(found)
 
@@ -187,13 +193,15 @@ def is_path(word):
 
 
 def form_of(token):
-    """The rule that applies to a token: `text`, `id`, `path` or `name`."""
+    """The rule that applies to a token: `text`, `id`, `path`, `goal` or `name`."""
     if token[0].isdigit() or HEX.fullmatch(token):
         return "text"
     if ID.fullmatch(token):
         return "id"
     if is_path(token) and not token.endswith(BUILT):
         return "path"
+    if GOAL.fullmatch(token):
+        return "goal"
     return "name" if NAME.fullmatch(token) or is_path(token) else "text"
 
 

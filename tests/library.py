@@ -66,14 +66,14 @@ OUTCOME = struct(refusal=BYTE, length=SIZE)  # of an entry that fills a buffer
 BLOCK = POINTER, SIZE  # the two arguments that are an input, or a buffer
 
 
-def run(*words):
-    """Runs a command from the repository's root; what it printed is shown if it fails. A command
-    with a slash, as `./sdk`, is a file there."""
+def run(*words, folder=ROOT):
+    """Runs a command from the repository's root, or in a folder; what it printed is shown if it fails.
+    A command with a slash, as `./sdk`, is a file at the root."""
     program = str(ROOT / words[0]) if "/" in words[0] else words[0]
     if shutil.which(program) is None:
         raise Problem(f"`{words[0]}` is not installed, or not on the path")
     done = subprocess.run(
-        words, cwd=ROOT, stdout=subprocess.PIPE, stderr=subprocess.STDOUT, text=True
+        words, cwd=folder, stdin=subprocess.DEVNULL, stdout=subprocess.PIPE, stderr=subprocess.STDOUT, text=True
     )
     if done.returncode != 0:
         raise Problem(f"`{' '.join(words)}` failed with {done.returncode}:\n{done.stdout}")
@@ -113,9 +113,9 @@ def load(path, signatures):
 
 def build(crate, signatures):
     """Proves and compiles a crate, and loads it as a shared library."""
-    archive = f"target/staticlib/lib{crate}.a"
+    archive = f"crates/{crate}/out/lib{crate}.a"
     with building():
-        run("rt", "staticlib", crate)
+        run("rt", "lib", folder=ROOT / "crates" / crate)
     with tempfile.TemporaryDirectory() as folder:
         path = str(pathlib.Path(folder) / f"{crate}.so")
         run("gcc", "-shared", "-o", path, "-Wl,--whole-archive", archive, "-Wl,--no-whole-archive")

@@ -19,7 +19,7 @@ import reference
 from library import ROOT, Problem
 from reference import READ, READ_NV
 
-REPLAY = ROOT / "target" / "bin" / "replay"
+REPLAY = ROOT / "crates" / "replay" / "out" / "replay"
 WRAPPER = ROOT / "replay"  # the script that builds the program and runs it
 PATIENCE = 60  # seconds that a single run of the program may take
 

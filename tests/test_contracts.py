@@ -25,6 +25,7 @@ from contracts import (
     cited,
     clauses,
     crates,
+    depends,
     edit_in,
     edits_of,
     files_of,
@@ -70,14 +71,14 @@ def breaches(source):
 
 FUNCTIONS = """
 pub fn good(x: u8) -> u8 // a comment {
-    ensures { λ r. ⌜ r ≡ x ⌝ }
+    ensures { result ≡ x }
 {
     x
 }
 
 pub fn asks(x: u8) -> u8
-    requires { ⌜ x < 9 ⌝ }
-    ensures { λ r. ⌜ r ≡ x ⌝ }
+    requires { x < 9 }
+    ensures { result ≡ x }
 {
     x
 }
@@ -87,7 +88,7 @@ pub fn says_nothing(x: u8) -> u8 {
 }
 
 pub(crate) fn inner(x: u8) -> u8
-    requires { ⌜ x < 9 ⌝ }
+    requires { x < 9 }
 {
     x
 }
@@ -118,9 +119,9 @@ def check_functions():
 # ---- Conjuncts -------------------------------------------------------------------------------
 
 
-def gives(text, result, given):
+def gives(text, given):
     """Whether a text speaks of the result, or of what is left in a parameter."""
-    return result in words_of(text) or any(leaves(text, name) for name, _ in given)
+    return "result" in words_of(text) or any(leaves(text, name) for name, _ in given)
 
 
 def tree(text):
@@ -142,49 +143,48 @@ def flat(term):
     return [token for part in term for token in ([part] if isinstance(part, str) else flat(part))]
 
 
-def narrowings(term, result, known):
+def narrowings(term, known):
     """The fields and functions through which a term speaks of what the function gives, other than definitions: they say only a part of it."""
-    if result not in flat(term) and ".exit" not in flat(term):
+    if "result" not in flat(term) and ".new" not in flat(term):
         return []
     head, *rest = term
-    if head == result or (rest == [".exit"]):
+    if head == "result" or (rest == [".new"]):
         return []
-    fields = [token for token in rest if isinstance(token, str) and token.startswith(".")]
-    called = [head] if isinstance(head, str) and head not in [*known, "now"] else []
-    return called + fields + [each for part in term if isinstance(part, list) for each in narrowings(part, result, known)]
+    fields = [token for place, token in enumerate(rest) if isinstance(token, str) and token.startswith(".") and isinstance(([head] + rest)[place], list)]
+    called = [head] if isinstance(head, str) and head not in known else []
+    return called + fields + [each for part in term if isinstance(part, list) for each in narrowings(part, known)]
 
 
-def uncited(fact, result, given, known):
+def uncited(fact, given, known):
     """Why a conjunct says nothing, or nothing that can be read here; empty where it says something."""
     sides = split(fact, "≡")
     if len(sides) > 2 or not all(re.fullmatch(r"[\w«»′'.()\s]+", side) for side in sides):
         return "is neither an equation nor one definition"
     if len(sides) == 2 and sides[0] == sides[1]:
         return "has the same text on both sides"
-    if len(sides) == 2 and gives(sides[0], result, given) == gives(sides[1], result, given):
+    if len(sides) == 2 and gives(sides[0], given) == gives(sides[1], given):
         return "is no equation between what the function gives and what it was given"
     if len(sides) == 2 and cited(sides[0].split()[0], known) and sides[0].split()[0] == sides[1].split()[0]:
         return "has one definition around both sides"
-    as_it_is = len(sides) == 2 and sides[0] == result and sides[1] in dict(given)
+    as_it_is = len(sides) == 2 and sides[0] == "result" and sides[1] in dict(given)
     if not (as_it_is or cited(fact if len(sides) == 2 else fact.split()[0], known)):
         return "cites no definition"
-    parts = [word for side in sides for word in narrowings(tree(side), result, known)]
+    parts = [word for side in sides for word in narrowings(tree(side), known)]
     return f"speaks of what the function gives only through {parts[0]}" if parts else ""
 
 
 def unsaid(path, kind, text, structs):
     """The parts of a result, by their paths, that a text does not speak of."""
-    if re.search(rf"(?<![\w.]){re.escape(path)}(?![\w»])(?! \.)", text):
+    if re.search(rf"(?<![\w.]){re.escape(path)}(?![\w».])", text):
         return []
-    if kind not in structs or not re.search(rf"(?<![\w.]){re.escape(path)} \.", text):
+    if kind not in structs or not re.search(rf"(?<![\w.]){re.escape(path)}\.", text):
         return [path]
-    return [part for field, inner in structs[kind] for part in unsaid(f"{path} .{field}", inner, text, structs)]
+    return [part for field, inner in structs[kind] for part in unsaid(f"{path}.{field}", inner, text, structs)]
 
 
 def passed_over(head, structs):
     """What a contract does not speak of: parts of the result, what is left in a buffer, parameters."""
-    result, facts = stated(head)
-    text = " × ".join(facts)
+    text = " × ".join(stated(head))
     for name, kind in parameters(head):
         if kind.startswith("&mut") and not leaves(text, name):
             yield f"does not say what is left in {name}"
@@ -192,17 +192,13 @@ def passed_over(head, structs):
             yield f"does not speak of {name}"
     returned = re.search(r"\) -> ([^\n{]+)", head)
     if returned:
-        yield from (f"does not speak of {part}" for part in unsaid(result, returned.group(1).strip(), text, structs))
+        yield from (f"does not speak of {part}" for part in unsaid("result", returned.group(1).strip(), text, structs))
 
 
 def weaknesses(function, structs):
     """What is wrong with the contract of a public function."""
-    result, facts = stated(function.item.head)
-    if not facts:
-        yield "its ensures has another form than λ r. ⌜ .. ⌝"
-        return
-    for fact in facts:
-        fault = uncited(fact, result, parameters(function.item.head), function.known)
+    for fact in stated(function.item.head):
+        fault = uncited(fact, parameters(function.item.head), function.known)
         if fault:
             yield f"the conjunct `{fact}` {fault}"
     yield from passed_over(function.item.head, structs)
@@ -216,7 +212,7 @@ def unused(source):
 
 def renamed(source):
     """The definitions that a source brings in under another name."""
-    return re.findall(r" as (\w+)", " ".join(re.findall(r"^ghost use Rattle·.*;", source, re.M)))
+    return re.findall(r" as (\w+)", " ".join(re.findall(r"^ghost use Rattle\.(?!std\.).*;", source, re.M)))
 
 
 def structs_in(source):
@@ -226,13 +222,14 @@ def structs_in(source):
 
 
 CONJUNCTS = """
-ghost use Rattle·sample·specs.specs.Sample.{step, answer, pair as two, Holds, idle};
+ghost use Rattle.std.specs.Prelude.{◌≡◌};
+ghost use Rattle.sample.specs.Sample.{step, answer, pair as two, Holds, idle};
 pub struct Done {
     pub state: State,
     pub number: u8,
 }
 pub fn run(state: State, out: &mut [u8]) -> Done
-    ensures { λ r. ⌜ (r .state ≡ step state) × ((r .number ≡ two state) × (now (out .exit) ≡ answer state (now (out .entry)))) ⌝ }
+    ensures { (result.state ≡ step state) × ((result.number ≡ two state) × (out.new ≡ answer state out.old)) }
 {}
 """
 
@@ -240,20 +237,19 @@ pub fn run(state: State, out: &mut [u8]) -> Done
 # Changes of the sample: the old text, the new one, and what is found then. `fact` stands for the conjunct that the new text has.
 WEAKENED = (
     ("", "", []),
-    ("r .number ≡ two state", "r .number ≡ r .number", ["fact has the same text on both sides"]),
-    ("r .number ≡ two state", "two (r .number) ≡ two ((r .number))", ["fact is no equation between what the function gives and what it was given"]),
-    ("r .number ≡ two state", "two (r .number) ≡ two (two state)", ["fact has one definition around both sides"]),
-    ("r .state ≡ step state", "step state ≡ state", ["fact is no equation between what the function gives and what it was given", "does not speak of r .state"]),
-    ("r .number ≡ two state", "(r .number ≡ two state) ⊎ Holds state", ["fact is neither an equation nor one definition"]),
-    ("r .number ≡ two state", "r .number ≡ 0", ["fact cites no definition"]),
-    ("answer state (now (out .entry))", "now (out .entry)", ["the conjunct `now (out .exit) ≡ now (out .entry)` cites no definition"]),
-    ("r .number ≡ two state", "r ≡ state", []),
-    ("(r .number ≡ two state) ×", "", ["does not speak of r .number"]),
-    ("now (out .exit) ≡ answer state (now (out .entry))", "Holds (now (out .entry))", ["does not say what is left in out"]),
+    ("result.number ≡ two state", "result.number ≡ result.number", ["fact has the same text on both sides"]),
+    ("result.number ≡ two state", "two result.number ≡ two (result.number)", ["fact is no equation between what the function gives and what it was given"]),
+    ("result.number ≡ two state", "two result.number ≡ two (two state)", ["fact has one definition around both sides"]),
+    ("result.state ≡ step state", "step state ≡ state", ["fact is no equation between what the function gives and what it was given", "does not speak of result.state"]),
+    ("result.number ≡ two state", "(result.number ≡ two state) ⊎ Holds state", ["fact is neither an equation nor one definition"]),
+    ("result.number ≡ two state", "result.number ≡ 0", ["fact cites no definition"]),
+    ("answer state out.old", "out.old", ["the conjunct `out.new ≡ out.old` cites no definition"]),
+    ("result.number ≡ two state", "result ≡ state", []),
+    ("(result.number ≡ two state) ×", "", ["does not speak of result.number"]),
+    ("out.new ≡ answer state out.old", "Holds out.old", ["does not say what is left in out"]),
     ("state: State, out", "state: State, wake: u8, out", ["does not speak of wake"]),
-    ("r .state ≡ step state", "Holds (length (two (r .state))) state", ["fact speaks of what the function gives only through length"]),
-    ("r .state ≡ step state", "two (r .state) .0 ≡ step state", ["fact speaks of what the function gives only through .0"]),
-    ("⌜ (r", "(r", ["its ensures has another form than λ r. ⌜ .. ⌝"]),
+    ("result.state ≡ step state", "Holds (length (two result.state)) state", ["fact speaks of what the function gives only through length"]),
+    ("result.state ≡ step state", "(two result.state).0 ≡ step state", ["fact speaks of what the function gives only through .0"]),
 )
 
 
@@ -371,7 +367,7 @@ A comment, which rt passes over.
 CODE = """
 const LIMIT: u8 = 8;
 pub fn ask(x: u8) -> bool
-    ensures { λ r. ⌜ r ≡ asked x ⌝ }
+    ensures { result ≡ asked x }
 {
     within(x)
 }
@@ -379,7 +375,7 @@ fn within(x: u8) -> bool {
     x < LIMIT
 }
 pub fn other(ask: u8) -> bool
-    ensures { λ r. ⌜ r ≡ otherwise ask ⌝ }
+    ensures { result ≡ otherwise ask }
 {
     below::within(ask)
 }
@@ -429,9 +425,8 @@ def check_edits():
     yield from (f"tests/edits/{name}: there is no such crate" for name in names_in("tests/edits") if name not in crates())
     folders = [folder for crate in crates() for folder in (f"crates/{crate}/must-fail", f"tests/edits/{crate}")]
     yield from (f"{folder}/{name}: is no edit" for folder in folders for name in names_in(folder) if not name.endswith(".edit"))
-    depends = dict(line.split(":") for line in read("crates.txt").split("\n") if re.match(r"\w+:", line))
-    for crate in crates():
-        yield from unheld(crate, depends[crate].split())
+    for crate, libraries in depends().items():
+        yield from unheld(crate, libraries)
 
 
 # ---- All of them -----------------------------------------------------------------------------
@@ -442,7 +437,7 @@ CHECKS = (check_functions, check_conjuncts, check_document, check_edits)
 def main(checks, whole):
     faults = [fault for check in checks for fault in check()]
     functions = [function for crate in crates() for function in functions_of(crate)]
-    facts = sum(len(stated(function.item.head)[1]) for function in functions)
+    facts = sum(len(stated(function.item.head)) for function in functions)
     edits = [edit for crate in crates() for edit in edits_of(crate)]
     more = sum(edit.tried == MORE for edit in edits)
     if faults or not functions or not edits:

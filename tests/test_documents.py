@@ -98,7 +98,7 @@ class Passage:
                 yield from self.path_faults(token)
             elif form == "name":
                 yield from self.name_faults(place)
-            elif token not in decision_ids():
+            elif form == "id" and token not in decision_ids():
                 yield f"there is no decision {token}"
 
 
@@ -114,7 +114,7 @@ def check_names():
         raise Problem("\n".join(faults))
     if not seen["path"] or not seen["name"]:
         raise Problem("the documents name nothing")
-    return f"{seen['path']} paths, {seen['name']} names and {seen['id']} ids in {len(documents())} documents"
+    return f"{seen['path']} paths, {seen['name']} names, {seen['goal']} goals and {seen['id']} ids in {len(documents())} documents"
 
 
 # ---- Links and ids ----------------------------------------------------------------------------
@@ -179,18 +179,18 @@ SAMPLES = {
     "`docs/TRACE.md`, `cdi_item/specs/Items.antt`, `tests/`, `./replay`, `.ci/run`, `crates.txt`": [],
     "`docs/NONE.md` and `cdi_item/specs/None.antt`": ["the path `docs/NONE.md` does not exist", "the path `cdi_item/specs/None.antt` does not exist"],
     # patterns, and what is built
-    "`crates/NAME/specs/`, `crates/*/must-fail/*.edit`, `tests/test_NAME.py`, `proofs/F/Proof.antt`, `target/sdk/none`": [],
+    "`crates/NAME/specs/`, `crates/*/must-fail/*.edit`, `tests/test_NAME.py`, `proofs/F/Answers.antt`, `target/sdk/none`": [],
     "`crates/NAME/none/`, `tests/none_*.py`": ["the path `crates/NAME/none/` does not exist", "the path `tests/none_*.py` does not exist"],
     # relative to what was named before
     "`logic`: `specs/Written.antt`, `Signed.antt`": [],
     "`logic`: `specs/Items.antt`": ["the path `specs/Items.antt` does not exist"],
-    "`sequence/specs/Model.antt`, and of `cdi_model` `specs/Model.antt`: `decideBlock`": [],
+    "`sequence/specs/Model.antt`, and of `cdi_model` `specs/Model.antt`: `decide_block`": [],
     "`specs/Written.antt`": [],
     "`specs/None.antt`": ["the path `specs/None.antt` does not exist"],
-    "`reference.py`, `Proof.antt`": [],
+    "`reference.py`, `Answers.antt`": [],
     "`none.py`": ["the path `none.py` does not exist"],
     # names
-    "`readFrame`, `WAKE_LIMIT`, `cdi_execute`, `check_wakes`, `examples-hold`, `libcdi.so`, `seventeen_wakes`": [],
+    "`read_frame`, `WAKE_LIMIT`, `cdi_execute`, `check_wakes`, `examples_hold`, `libcdi.so`, `seventeen_wakes`": [],
     "`readFram`, `examples-hol`, `none_such`": ["`readFram` is in no source", "`examples-hol` is in no source", "`none_such` is in no source"],
     "`Document`": ["`Document` is in no source"],  # in comments alone
     "`include/cdi.h` and `lib/libcdi.a` under `target/sdk`": [],
@@ -198,16 +198,16 @@ SAMPLES = {
     "`cdi_module::execute`, `Slot::bytes`": [],
     "`cdi_host::execute`, `Slot::readout`": ["`cdi_host::execute` is in no source", "`Slot::readout` is in no source"],
     # names of a file or a crate
-    "`refusal/specs/Refusal.antt`: `outcomeOf` and `endsEarly`": [],
-    "`refusal/specs/Refusal.antt`: `readFrame`": ["`readFrame` is not in crates/refusal/specs/Refusal.antt"],
+    "`refusal/specs/Refusal.antt`: `outcome_of` and `ends_early`": [],
+    "`refusal/specs/Refusal.antt`: `read_frame`": ["`read_frame` is not in crates/refusal/specs/Refusal.antt"],
     "`refusal/specs/Refusal.antt` has no `Written`": ["`Written` is not in crates/refusal/specs/Refusal.antt"],  # in an import alone
-    "`refusal/specs/Refusal.antt`, and `readFrame` in `cdi_frame/specs/Frame.antt`": [],
-    "`readFrame` in `cdi_frame`, `readFrame` in `cdi_item`": ["`readFrame` is not in the crate"],
+    "`refusal/specs/Refusal.antt`, and `read_frame` in `cdi_frame/specs/Frame.antt`": [],
+    "`read_frame` in `cdi_frame`, `read_frame` in `cdi_item`": ["`read_frame` is not in the crate"],
     # ids
     "`FRAME-1`": [],
     "`FRAME-99` and `NONE-1`": ["there is no decision FRAME-99", "there is no decision NONE-1"],
     # text
-    "`80 55 82`, `FF`, `FFE0`, `0x81`, `22`, `refused 3`, `not hex`, `gcc -O2`, `λ r. r ≡ x`, `[81 00]`, `scale * sumOf rs / length rs`": [],
+    "`80 55 82`, `FF`, `FFE0`, `0x81`, `22`, `refused 3`, `not hex`, `gcc -O2`, `λ r. r ≡ x`, `[81 00]`, `scale * sum_of rs / length rs`": [],
     "`./replay < examples/session.log`": [],
     "`./replay < examples/none.log`": ["the path `examples/none.log` does not exist"],
 }

@@ -29,7 +29,7 @@ def scratch(copy):
     shutil.copytree(ROOT, copy, ignore=shutil.ignore_patterns("target", ".git", "crates", "tests", "crates.txt"))
     with open(os.path.join(ROOT, "crates.txt"), encoding="utf-8") as file:
         lowest = next(line.split(":")[0] for line in file if re.fullmatch(r"\w+:\s*", line))
-    shutil.copytree(os.path.join(ROOT, "crates", lowest), os.path.join(copy, "crates", lowest))
+    shutil.copytree(os.path.join(ROOT, "crates", lowest), os.path.join(copy, "crates", lowest), ignore=shutil.ignore_patterns("out"))
     write(os.path.join(copy, "crates.txt"), lowest + ":\n")
     write(os.path.join(copy, "tests", "test_sample.py"), "print('fine')\n")
 
@@ -47,8 +47,8 @@ def unlisted_crate(copy):
 
 
 def unproved_function(copy):
-    source = "pub fn one() -> u8\n    ensures { λ r. ⌜ r ≡ 1 ⌝ }\n{\n    2\n}\n"
-    write(os.path.join(copy, "crates", "sample", "src", "lib.rt"), "ghost use mathlib.Core.Path.{_≡_};\n\n" + source)
+    source = "pub fn one() -> u8\n    ensures { result ≡ 1 }\n{\n    2\n}\n"
+    write(os.path.join(copy, "crates", "sample", "src", "lib.rt"), "ghost use Rattle.std.specs.Prelude.{◌≡◌};\n\n" + source)
     write(os.path.join(copy, "crates.txt"), "sample:\n")
     shutil.rmtree(os.path.join(copy, "crates", "logic"))
 

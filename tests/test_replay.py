@@ -806,7 +806,7 @@ def check_script_links(compare, rng):
         for path in ("a/absolute", "a/b/relative", "linked/relative", "repository/replay"):
             run = run_on_file(f"{folder}/{path}", log)
             compare.compare(f"./replay as {path}", log, reference.replay(log), run)
-        write_program(f"{folder}/other/target/bin/replay", "echo other")
+        write_program(f"{folder}/other/{PROGRAM}", "echo other")
         stand_in(f"{folder}/other")
         os.symlink("../../other/replay", f"{folder}/a/b/other")
         if run_on_file(f"{folder}/linked/other", b"") != Run(b"other\n", b"", 0):
@@ -868,11 +868,14 @@ def write_program(path, text):
     os.chmod(path, 0o755)
 
 
+PROGRAM = "crates/replay/out/replay"
+
+
 def stand_in(folder):
     """A copy of the script, with one old source; the program is to be written."""
-    os.makedirs(f"{folder}/crates")
+    os.makedirs(f"{folder}/crates/replay", exist_ok=True)
     shutil.copy(WRAPPER, folder)
-    for path in (f"{folder}/crates.txt", f"{folder}/crates/source"):
+    for path in (f"{folder}/crates.txt", f"{folder}/crates/replay/source"):
         with open(path, "w", encoding="ascii"):
             pass
         os.utime(path, (1, 1))
@@ -884,7 +887,7 @@ def check_script_messages(compare, rng):
     """A message reaches standard error while the program still runs, also one without a line feed. A
     program that is killed is no success."""
     with tempfile.TemporaryDirectory() as folder:
-        script, program = stand_in(folder), f"{folder}/target/bin/replay"
+        script, program = stand_in(folder), f"{folder}/{PROGRAM}"
         write_program(program, "echo 'replay: one' >&2\nread line\nprintf 'replay: \\\\ two' >&2")
         with started(script) as process:
             first = process.stderr.read(4096)
@@ -902,8 +905,8 @@ def check_script_builds(compare, rng):
     """The program is built where there is none or a source is newer; the log is named by its path."""
     with tempfile.TemporaryDirectory() as folder:
         script, log = stand_in(folder), f"{folder}/target/replay.log"
-        build = "mkdir -p target/bin && printf '#!/bin/sh\\ncat\\n' >target/bin/replay"
-        write_program(f"{folder}/bin/rt", f"[ \"$*\" = 'check replay' ] && {build} && chmod +x target/bin/replay")
+        build = "mkdir -p out && printf '#!/bin/sh\\ncat\\n' >out/replay"
+        write_program(f"{folder}/bin/rt", f"[ \"$*\" = run ] && {build} && chmod +x out/replay")
         building = f"replay: proving and building the program, about two minutes; the log is {log}\n"
         failed = f"replay: the program could not be proved and built; see {log}\n"
         missing = "replay: 'rt' is not on the PATH; building needs the Rattle toolchain\n"
@@ -918,7 +921,7 @@ def check_script_builds(compare, rng):
 
         expect("first use", b"text", building, 0)
         expect("second use", b"text", "", 0)
-        os.utime(f"{folder}/crates/source", (2**32, 2**32))
+        os.utime(f"{folder}/crates/replay/source", (2**32, 2**32))
         expect("a newer source", b"text", building, 0)
         write_program(f"{folder}/bin/rt", "exit 1")
         expect("a build that fails", b"", building + failed, 1)

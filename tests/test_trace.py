@@ -148,7 +148,7 @@ def check_reading_order():
 
 # ---- The checks themselves --------------------------------------------------------------------
 
-GOOD = "`refusal/specs/Refusal.antt`: `outcomeOf`"
+GOOD = "`refusal/specs/Refusal.antt`: `outcome_of`"
 NOTICES = "`tests/test_trace.py`: `check_rows`"
 SAMPLES = (
     (['"a few words of it"', GOOD, NOTICES], []),
@@ -161,8 +161,8 @@ SAMPLES = (
     (["a", "none", NOTICES], ["neither a home nor a reason: none"]),
     (["a", f"{GOOD}; {NOTICES}", NOTICES], [f"more or less than one home: {GOOD}; {NOTICES}"]),
     (["a", f"{GOOD}, `outcome`", NOTICES], [f"more or less than one home: {GOOD}, `outcome`"]),
-    (["a", "`refusal/specs/None.antt`: `outcomeOf`", NOTICES], ["there is no file refusal/specs/None.antt"]),
-    (["a", "`outcomeOf`", NOTICES], ["there is no file outcomeOf"]),
+    (["a", "`refusal/specs/None.antt`: `outcome_of`", NOTICES], ["there is no file refusal/specs/None.antt"]),
+    (["a", "`outcome_of`", NOTICES], ["there is no file outcome_of"]),
     (["a", "`refusal/specs/Refusal.antt`", NOTICES], ["no name after refusal/specs/Refusal.antt"]),
     (["a", "`refusal/specs/Refusal.antt`: `outcomeO`", NOTICES], ["`outcomeO` is not defined in crates/refusal/specs/Refusal.antt"]),
     (["a", "`refusal/specs/Refusal.antt`: `written`", NOTICES], ["`written` is not defined in crates/refusal/specs/Refusal.antt"]),
