@@ -1,7 +1,7 @@
 #!/usr/bin/env python3
 """The gate passes on a good repository and fails where it must: on a crate that crates.txt does not list, on an empty or a
-missing list, on a function that is not proved, on a must-fail edit that is, on a bad layout, on a test that fails (also one
-whose name has quotes or a space), that is killed or says nothing, without tests, and without its tools.
+missing list, on a function that is not proved, on a must-fail edit that is or that fits no text, on a bad layout, on a test that
+fails (also one whose name has quotes or a space), that is killed or says nothing, without tests, and without its tools.
 
 Each case is a scratch copy of this repository with one fault. To be quick, a copy keeps the lowest crate alone; its tests are one
 that passes, so that this one does not start itself.
@@ -59,6 +59,10 @@ def edit_that_is_proved(copy):
     write(os.path.join(crate, "must-fail", "comment.edit"), "file: src/lib.rt\nold: One\nnew: Another\n")
 
 
+def edit_that_fits_nothing(copy):
+    write(os.path.join(copy, "crates", "logic", "must-fail", "nothing.edit"), "file: src/lib.rt\nold: no such text\nnew: another\n")
+
+
 def bad_layout(copy):
     write(os.path.join(copy, "crates", "logic", "src", "lib.rt"), "const  A:u8=1 ;\n")
 
@@ -112,7 +116,8 @@ CASES = {
     unlisted_crate: "crates/stray/src/lib.rt",
     unproved_function: "the proofs failed",
     edit_that_is_proved: "NOT REFUSED",
-    bad_layout: "rt fmt --check: FAILED",
+    edit_that_fits_nothing: "an edit is bad",
+    bad_layout: "is not in the layout",
     empty_list: "the proofs failed",
     missing_list: "the proofs failed",
     failing_test: "tests/test_other.py: FAILED",
