@@ -9,8 +9,8 @@ use mathlib.Core.Option.{some as just}
 use lib.Dec.{T}
 use lib.ListN.{length}
 use seplogic.Ra.Ura.{Ura}
-use seplogic.Ra.TreeShare.{full_share}
-use mir.Syntax.{Sym, Lifetime, named, erased, mut, w8, Ty, ty_int, ty_ref, ty_struct, Tys, tcons, tnil, Name, Place, place, Step as PStep, deref, field, Local, local, Fn}
+use base.Fraction.{full_share}
+use mir.Syntax.{Sym, Lifetime, named, erased, mut, w8, Ty, ty_int, ty_ref, ty_struct, Tys, tcons, tnil, Callee, Place, place, Step as PStep, deref, field, Local, local, Fn}
 use mir.Syntax.{Opd as Operand, copy, Rv as RValue, rv_opd, addr_of, aggregate, Body, seq, assign, call, return}
 use mir.Fields.{get_v, set_v}
 use mir.Val.{Val, Vals, vptr, vstruct, vcons, vnil, WT, has_ty}
@@ -34,7 +34,7 @@ use denote.Laws.{Is, Typed, shows}
 use denote.Shadow.{makes_shadow}
 use denote.Memory.{mem, cell_at}
 use denote.Builtin.{u8}
-use denote.Ref.{MutBor, MutRef, at_last, mut_at, mut_vals}
+use denote.Ref.{Bor, MutBor, MutRef, as_bor, at_last, mut_at, mut_vals}
 use denote.Slice.{slice_ty, slice_val, Room}
 use denote.Exit.{yes, left}
 use denote.Signature.{Slot, plain, mut_ref_to, type_at}
@@ -42,6 +42,8 @@ use denote.Steps.{only, opens, closes, owned, peeks, nothing}
 use denote.Struct.Steps.{spelt}
 use denote.Struct.Field.{Field, rows, u8-field}
 use denote.Struct.Struct.{to_tys, layout, Plains}
+use denote.Struct.Values.{Values, intos, intos_one}
+use denote.Struct.Record.{Done as Nothing, Done-prop as Nothing-prop}
 use denote.Struct.Declared.{Declared, fields, shape, row, field as as-field}
 use denote.Struct.Laws as LL
 use denote.Triple.Entry.{Args, Res, alive}
@@ -122,8 +124,8 @@ says 𝓤 T c κs a g r ws = (c κs a).ensures g r (at_exit T κs a ws)
 -- an entry of which the walk holds, given that its core meets its own contract, meets its contract
 pub entry_meets : {M : Type 1} {𝓤 : Ura M} (𝓛 : Logic 𝓤) (𝓜 : Model 𝓤 𝓛.H) (𝓡 : Running 𝓤 𝓛.H 𝓜) (T : Ended) (c : Clauses 𝓤 T) (hs : Stays T.signature.params T.kept)
     → AllGo 𝓛 T.signature.lifetimes T.signature.params T.kept hs
-    → (names : Names) (entry : Name) (f : Fn) → Closed 𝓤 𝓛.H (tables 𝓤 𝓛.H 𝓜 𝓡 names).C (tables 𝓤 𝓛.H 𝓜 𝓡 names).Λ entry f
-    → (core : Contract 𝓤) (callee : Name) (r : Routine) → names callee ≡ r → Triple 𝓤 (𝓡.run r) core
+    → (names : Names) (entry : Callee) (f : Fn) → Closed 𝓤 𝓛.H (tables 𝓤 𝓛.H 𝓜 𝓡 names).C (tables 𝓤 𝓛.H 𝓜 𝓡 names).Λ entry f
+    → (core : Contract 𝓤) (callee : Callee) (r : Routine) → names callee ≡ r → Triple 𝓤 (𝓡.run r) core
     → ((C : Calls 𝓤 𝓛.H) (Λ : Loops 𝓤 𝓛.H) → FmC 𝓤 𝓛.H 𝓛.laws C → Triple 𝓤 (C callee) core → Walks 𝓛 T hs (WpFn 𝓤 𝓛.H C Λ f) c)
     → Triple 𝓤 (𝓡.run (names entry)) (contract_of 𝓛 T c)
 unfolding tables_of
@@ -299,7 +301,7 @@ module _ {M : Type 1} {𝓤 : Ura M} (𝓛 : Logic 𝓤) (T : Ended) (c : Clause
 
 -- the copy of the state, and what stands beside it, P and R, are what the core asks
 pub asks : (S : Held) {M : Type 1} {𝓤 : Ura M} {𝓛 : Logic 𝓤} {K : Type 0} {Γ : List (Item 𝓤)} {E : Env 𝓤 𝓛.H} {C : Calls 𝓤 𝓛.H} {Λ : Loops 𝓤 𝓛.H} {p : Post 𝓤 𝓛.H}
-    {f : Name} {xs : List Operand} {d : Place} {rest : Body}
+    {f : Callee} {xs : List Operand} {d : Place} {rest : Body}
     → K → FmC 𝓤 𝓛.H 𝓛.laws C → (T : Ended) (c : Clauses 𝓤 T) → Triple 𝓤 (C f) (contract_of 𝓛 T c) → (y : (contract_of 𝓛 T c).Ghost) {P : SProp 𝓤} {R : Fml} (s : State S) → IsState S s
     → ent 𝓤 (sep 𝓤 (sep 𝓤 P (sem 𝓛 (fsep ((the_row S).own_val s (mach S s ∷ [])) R))) (emp 𝓤)) ((contract_of 𝓛 T c).pre y)
     → Opds K 𝓛 (raw ((contract_of 𝓛 T c).pre y) ∷ Γ) E xs ((contract_of 𝓛 T c).args y)
@@ -324,7 +326,7 @@ enters 𝓛 κ q F B B' P R C Λ f vs Kf k = qed 𝓛 (((‵ (flft κ q) ⊛ raw
 
 -- the state in memory, behind a reference x that local 1 holds, is copied to local i
 pub takes-known : (S : Held) {M : Type 1} {𝓤 : Ura M} {𝓛 : Logic 𝓤} {K : Type 0} {Γ : List (Item 𝓤)} {E : Env 𝓤 𝓛.H} {C : Calls 𝓤 𝓛.H} {Λ : Loops 𝓤 𝓛.H} {p : Post 𝓤 𝓛.H} {rest : Body}
-    → K → (k : ℕ) (q : Share) (x : MutBor (State S)) {i l l₁ : ℕ} {τ₁ : Ty}
+    → K → (k : ℕ) (q : Share) (x : Bor (State S)) {i l l₁ : ℕ} {τ₁ : Ty}
     → Holds 𝓛 k Γ E 1 τ₁ l₁ (vptr x.ref_ptr.0 x.ref_ptr.1) → Empty 𝓛 k Γ E i (the_mir S) l → IsState S x.now
     → Step K 𝓛 (‵ (cell_at q (the_row S).mir (mach S x.now ∷ []) x.ref_ptr.0 x.ref_ptr.1) ∷ put 𝓛 (behind k i) (‵ (fat full_share (the_mir S) l zero (mach S x.now))) Γ) (runs C Λ E rest p)
     (‵ (cell_at q (the_row S).mir (mach S x.now ∷ []) x.ref_ptr.0 x.ref_ptr.1) ∷ Γ) (runs C Λ E (seq (assign (place i []) (rv_opd (copy (place 1 (deref (the_mir S) ∷ []))))) rest) p)
@@ -333,7 +335,7 @@ takes-known S {𝓤 = 𝓤} {𝓛 = 𝓛} t k q x {i} at_1 at_i was =
     (init t (suc (behind k i)) (cell_of 𝓤 𝓛.H at_i) (state_typed S 𝓛 x.now was))
 
 pub takes : (S : Held) {M : Type 1} {𝓤 : Ura M} {𝓛 : Logic 𝓤} {K : Type 0} {Γ : List (Item 𝓤)} {E : Env 𝓤 𝓛.H} {C : Calls 𝓤 𝓛.H} {Λ : Loops 𝓤 𝓛.H} {p : Post 𝓤 𝓛.H} {rest : Body}
-    → K → (q : Share) (x : MutBor (State S)) (vs : List Val) {i l l₁ : ℕ} {τ₁ : Ty} {j₀ j₁ j₂ j₃ j₄ : Item 𝓤}
+    → K → (q : Share) (x : Bor (State S)) (vs : List Val) {i l l₁ : ℕ} {τ₁ : Ty} {j₀ j₁ j₂ j₃ j₄ : Item 𝓤}
     → Holds 𝓛 0 Γ E 1 τ₁ l₁ (vptr x.ref_ptr.0 x.ref_ptr.1) → Empty 𝓛 0 Γ E i (the_mir S) l
     → (IsState S x.now → Seq K 𝓛 (‵ (cell_at q (the_row S).mir (mach S x.now ∷ []) x.ref_ptr.0 x.ref_ptr.1) ∷ ‵ ((the_row S).own_val x.now (mach S x.now ∷ [])) ∷ j₀ ∷ j₁ ∷ j₂ ∷ j₃ ∷ j₄
     ∷ put 𝓛 (behind 0 i) (‵ (fat full_share (the_mir S) l zero (mach S x.now))) Γ) (runs C Λ E rest p))
@@ -346,10 +348,10 @@ takes S {𝓤 = 𝓤} {𝓛 = 𝓛} t q x vs at_1 at_i k =
 -- ---- a `&mut` to the state, x
 module _ (S : Held) where
   abbrev observed : MutBor (State S) → State S → Fml
-  observed x s = fobs x.name ((the_row S).coded.code s)
+  observed x s = fobs x.ghost_name ((the_row S).coded.code s)
 
   abbrev lies : MutBor (State S) → Fml
-  lies x = Borrowed (mem (the_row S)) x.ptr.0 x.ptr.1 x.name
+  lies x = Borrowed (mem (the_row S)) x.ref_ptr.0 x.ref_ptr.1 x.ghost_name
 
 module _ (S : Held) {M : Type 1} {𝓤 : Ura M} (κ : Lft) (q : Share) (x : MutBor (State S)) where
   -- while it is whole, at the value s
@@ -358,7 +360,7 @@ module _ (S : Held) {M : Type 1} {𝓤 : Ura M} (κ : Lft) (q : Share) (x : MutB
 
   -- while it is open, the state s in memory
   abbrev pub open_with : State S → List (Item 𝓤) → List (Item 𝓤)
-  open_with s Γ = ‵ (cell_at full_share (the_row S).mir (mach S s ∷ []) x.ptr.0 x.ptr.1) ∷ ‵ (fobor κ q (lies S x))
+  open_with s Γ = ‵ (cell_at full_share (the_row S).mir (mach S s ∷ []) x.ref_ptr.0 x.ref_ptr.1) ∷ ‵ (fobor κ q (lies S x))
       ∷ ‵ (observed S x x.now) ∷ ‵ (fauth x.ghost_name ((the_row S).coded.code x.now)) ∷ Γ
 
   abbrev pub open_at : List (Item 𝓤) → List (Item 𝓤)
@@ -376,7 +378,7 @@ pub copies : (S : Held) {M : Type 1} {𝓤 : Ura M} {𝓛 : Logic 𝓤} {K : Typ
     → Holds 𝓛 0 Γ E 1 τ₁ l₁ (vptr x.ref_ptr.0 x.ref_ptr.1) → Empty 𝓛 0 Γ E i (the_mir S) l
     → (IsState S x.now → Seq K 𝓛 (open_at S κ q x (j₀ ∷ j₁ ∷ put 𝓛 (behind 0 i) (‵ (fat full_share (the_mir S) l zero (mach S x.now))) Γ)) (runs C Λ E rest p))
     → Seq K 𝓛 (whole-at S κ q x x.now (j₀ ∷ j₁ ∷ Γ)) (runs C Λ E (seq (assign (place i []) (rv_opd (copy (place 1 (deref (the_mir S) ∷ []))))) rest) p)
-copies S t κ q x at_1 at_i k = opens t tt (the_row S) {h = x.now} x.ref_ptr.0 x.ref_ptr.1 (λ vs. takes S t full_share x vs at_1 at_i (λ was. move t (1 ∷ []) $ drop t $ k was))
+copies S t κ q x at_1 at_i k = opens t tt (the_row S) {h = x.now} x.ref_ptr.0 x.ref_ptr.1 (λ vs. takes S t full_share (as_bor x) vs at_1 at_i (λ was. move t (1 ∷ []) $ drop t $ k was))
 
 -- it is closed, at the state s that lies there
 shut : (S : Held) {M : Type 1} {𝓤 : Ura M} {𝓛 : Logic 𝓤} {K : Type 0} {Γ : List (Item 𝓤)} {G : Goal 𝓤 𝓛.H}
@@ -438,40 +440,62 @@ module _ (S : Held) (N : Answer) where
   abbrev pub both : State S → N.part.Value → Denots (rows (the_field S ∷ N.part ∷ []))
   both s y = (S.type.to s, (N.part.into y, tt))
 
+  abbrev pub Parts : Type 0
+  Parts = Values (the_field S ∷ N.part ∷ [])
+
   module _ (ν : Sym) where
     abbrev pub both-mir : Ty
     both-mir = ty_struct ν (tcons (the_mir S) (tcons N.mir tnil))
 
     abbrev Both : Declared
-    Both = record { name = ν; args = []; parts = the_field S ∷ N.part ∷ []; D = Denots (rows (the_field S ∷ N.part ∷ [])); to = λ a. a; to_one_lem = λ a b e. e }
+    Both = record {
+      name = ν;
+      args = [];
+      types = [];
+      parts = the_field S ∷ N.part ∷ [];
+      D = Parts;
+      to = intos (the_field S ∷ N.part ∷ []);
+      to_one = intos_one (the_field S ∷ N.part ∷ []);
+      as_values = λ v. v;
+      to_is = λ v. refl;
+      cover = record { Ghost = λ v. Nothing; ghosts = λ v. tt; make = λ v g. v; eta = λ v. refl; beta = λ v g. refl };
+      propositions = λ v. Nothing-prop;
+    }
 
     both_one : (row Both).mir ≡ both-mir ∷ []
     both_one = ap (λ (τs : List Ty). ty_struct ν (tcons (the_mir S) (to_tys (τs ++ []))) ∷ []) N.one
 
+-- ---- the locals Γ once the result is in local i, and then its state in local j
 module _ (S : Held) {M : Type 1} {𝓤 : Ura M} (𝓛 : Logic 𝓤) (N : Answer) (ν : Sym) (s : State S) (y : N.part.Value) (Γ : List (Item 𝓤)) (i l : ℕ) where
   abbrev pub landed : List (Item 𝓤)
   landed = put 𝓛 (behind 0 i) (‵ (fat full_share (both-mir S N ν) l zero (both_val S N s y))) Γ
 
--- the code after the call
-abbrev pub storing : Held → ℕ → Body → Body
-storing S i rest = seq (assign (place 1 (deref (the_mir S) ∷ [])) (rv_opd (copy (place i (field 0 ∷ []))))) (seq (assign (place 0 []) (rv_opd (copy (place i (field 1 ∷ []))))) rest)
+  abbrev pub taken : ℕ → ℕ → List (Item 𝓤)
+  taken j m = put 𝓛 (behind 0 j) (‵ (fat full_share (the_mir S) m zero (mach S s))) landed
+
+-- the code after the call: the state of the result in local i is copied to local j, and from there behind the reference, and its answer is copied to local 0
+abbrev pub storing : Held → ℕ → ℕ → Body → Body
+storing S i j rest = seq (assign (place j []) (rv_opd (copy (place i (field 0 ∷ []))))) (seq (assign (place 1 (deref (the_mir S) ∷ [])) (rv_opd (copy (place j [])))) (seq (assign (place 0 []) (rv_opd (copy (place i (field 1 ∷ []))))) rest))
 
 -- it lands in local i, its state is stored behind x, which is closed there, and its answer is the entry's
 pub stores : (S : Held) {M : Type 1} {𝓤 : Ura M} {𝓛 : Logic 𝓤} {K : Type 0} {Γ : List (Item 𝓤)} {E : Env 𝓤 𝓛.H} {C : Calls 𝓤 𝓛.H} {Λ : Loops 𝓤 𝓛.H} {p : Post 𝓤 𝓛.H}
-    {rest : Body} {ν : Sym} {v : Val} {i l l₀ l₁ : ℕ} {τ₁ : Ty} {j₀ j₁ j₂ : Item 𝓤}
+    {rest : Body} {ν : Sym} {v : Val} {i l j m l₀ l₁ : ℕ} {τ₁ : Ty} {j₀ j₁ j₂ : Item 𝓤}
     → K → (N : Answer) (κ : Lft) (q : Share) (x : MutBor (State S)) (s : State S) (y : N.part.Value)
     → Empty 𝓛 0 Γ E i (both-mir S N ν) l → Holds 𝓛 0 (landed S 𝓛 N ν s y Γ i l) E i (both-mir S N ν) l (both_val S N s y)
-    → Holds 𝓛 0 (landed S 𝓛 N ν s y Γ i l) E 1 τ₁ l₁ (vptr x.ref_ptr.0 x.ref_ptr.1) → Empty 𝓛 0 (landed S 𝓛 N ν s y Γ i l) E 0 N.mir l₀
-    → (IsAnswer N y → Seq K 𝓛 (whole-at S κ q x s (j₀ ∷ j₁ ∷ j₂ ∷ put 𝓛 0 (‵ (fat full_share N.mir l₀ zero (answer_val N y))) (landed S 𝓛 N ν s y Γ i l))) (runs C Λ E rest p))
-    → Seq K 𝓛 (‵ ((row (Both S N ν)).own_val (both S N s y) (v ∷ [])) ∷ j₀ ∷ j₁ ∷ j₂ ∷ open_at S κ q x Γ)
-    (lands C Λ E (place i []) v (storing S i rest) p)
-stores S {𝓤 = 𝓤} {𝓛 = 𝓛} {ν = ν} t N κ q x s y at_i Landed-at at_1 at-0 k =
-    receives t 7 (Both S N ν) (both-laws S N) (both S N s y) (both_one S N ν) at_i (λ is.
-    let are : IsState S s × (IsAnswer N y × Unit {0}) = LL.owed (Both S N ν) (both-laws S N) (both S N s y) (both_val S N s y ∷ []) is in
-    assigns t (of_opd t (part_of t 7 0 Landed-at refl)) (at_spot t (spot_is 𝓤 𝓛.H at_1) (hop t (look t (behind 7 1) (cell_of 𝓤 𝓛.H at_1)) (stop t)))
+    → Empty 𝓛 0 (landed S 𝓛 N ν s y Γ i l) E j (the_mir S) m → Holds 𝓛 0 (taken S 𝓛 N ν s y Γ i l j m) E j (the_mir S) m (mach S s)
+    → Holds 𝓛 0 (taken S 𝓛 N ν s y Γ i l j m) E i (both-mir S N ν) l (both_val S N s y)
+    → Holds 𝓛 0 (taken S 𝓛 N ν s y Γ i l j m) E 1 τ₁ l₁ (vptr x.ref_ptr.0 x.ref_ptr.1) → Empty 𝓛 0 (taken S 𝓛 N ν s y Γ i l j m) E 0 N.mir l₀
+    → (IsAnswer N y → Seq K 𝓛 (whole-at S κ q x s (j₀ ∷ j₁ ∷ j₂ ∷ put 𝓛 0 (‵ (fat full_share N.mir l₀ zero (answer_val N y))) (taken S 𝓛 N ν s y Γ i l j m))) (runs C Λ E rest p))
+    → Seq K 𝓛 (‵ ((row (Both S N ν)).own_val (s, (y, tt)) (v ∷ [])) ∷ j₀ ∷ j₁ ∷ j₂ ∷ open_at S κ q x Γ)
+    (lands C Λ E (place i []) v (storing S i j rest) p)
+stores S {𝓤 = 𝓤} {𝓛 = 𝓛} {ν = ν} t N κ q x s y at_i Landed-at at_j Taken-at still-at at_1 at-0 k =
+    receives t 7 (Both S N ν) (both-laws S N) (s, (y, tt)) (both_one S N ν) at_i (λ is.
+    let are : IsState S s × (IsAnswer N y × Unit {0}) = LL.owed (Both S N ν) (both-laws S N) (s, (y, tt)) (both_val S N s y ∷ []) is in
+    fills t 7 (of_opd t (part_of t 7 0 Landed-at refl)) at_j (state_typed S 𝓛 s are.0) $
+    assigns t (of_opd t (operand t 7 Taken-at)) (at_spot t (spot_is 𝓤 𝓛.H at_1) (hop t (look t (behind 7 1) (cell_of 𝓤 𝓛.H at_1)) (stop t)))
     (store_raw t 3 refl (state_typed S 𝓛 s are.0)) $
     move t (3 ∷ 4 ∷ 5 ∷ 6 ∷ []) $ shut S t tt κ q x s are.0 $
-    fills t 6 (of_opd t (part_of t 6 1 Landed-at refl)) at-0 (answer_typed N 𝓛 y are.1.0) $ k are.1.0)
+    fills t 6 (of_opd t (part_of t 6 1 still-at refl)) at-0 (answer_typed N 𝓛 y are.1.0) $ k are.1.0)
 
 -- ---- the end: the tokens, what is had of the parameters, the answer, and what the core says, which is what the entry says
 module _ {M : Type 1} {𝓤 : Ura M} {𝓛 : Logic 𝓤} {K : Type 0} (t : K) where
