@@ -27,7 +27,7 @@ REFERENCES = {
 # A refusal that is written as a number, in the source and in the definitions.
 BARE = {
     ".rt": re.compile(r"\bRefused\(\s*\d|\brefused\(\s*\d|\brefusal:\s*\d"),
-    ".antt": re.compile(r"\b(?:refuse|refused|outcome|result|responded|poweredUp)\s+\d|\brefusal\s*=\s*\d"),
+    ".antt": re.compile(r"\b(?:refuse|refused|outcome|result|responded|powered_up)\s+\d|\brefusal\s*=\s*\d"),
 }
 # What starts a comment that goes to the line's end.
 COMMENT = {".rt": "//", ".antt": "--"}
@@ -46,11 +46,6 @@ def held(path, text, row, none, named=str, numbers=NUMBERS):
     if len(found) != len(wanted):
         raise Problem(f"{path} has a refusal twice: {sorted(found)}")
     return f"{len(wanted)} in {path}"
-
-
-def camel(name):
-    first, *rest = name.lower().split("_")
-    return first + "".join(word.capitalize() for word in rest)
 
 
 # ---- Numbers and names -----------------------------------------------------------------------
@@ -81,7 +76,7 @@ def check_words():
 
 
 def check_definitions():
-    return held(DEFINITIONS, read(DEFINITIONS), r"^(\w+) = (\d+)$", "none", camel)
+    return held(DEFINITIONS, read(DEFINITIONS), r"^(\w+) = (\d+)$", "none", str.lower)
 
 
 def held_in_header(library):
@@ -211,7 +206,7 @@ def check_given():
     words = {".rt": set(), ".antt": set()}
     for _, extension, text in sources():
         words[extension] |= set(re.findall(r"\w+", text))
-    unused = [name for name in NUMBERS if name not in words[".rt"] or camel(name) not in words[".antt"]]
+    unused = [name for name in NUMBERS if name not in words[".rt"] or name.lower() not in words[".antt"]]
     if unused:
         raise Problem(f"no source, or no definition, gives {unused}")
     return "each given by a source and a definition"
