@@ -324,6 +324,14 @@ pub enters : {M : Type 1} {𝓤 : Ura M} (𝓛 : Logic 𝓤) (κ : Lft) (q : Sha
 enters 𝓛 κ q F B B' P R C Λ f vs Kf k = qed 𝓛 (((‵ (flft κ q) ⊛ raw P) ⊛ ‵ (fsep (fsep F (fsep B B')) R)) ∷ ‵ ftrue ∷ []) ∵
     split ! $ move ! (1 ∷ []) $ fsplit ! $ fsplit3 ! $ move ! (4 ∷ []) $ split ! $ keep ! (3 ∷ 4 ∷ 0 ∷ 1 ∷ 5 ∷ []) $ begins ! C Λ f vs Kf k
 
+-- the same where the reference is a `&`, which owns F ∗ B
+pub enters_shr : {M : Type 1} {𝓤 : Ura M} (𝓛 : Logic 𝓤) (κ : Lft) (q : Share) (F B : Fml) (P : SProp 𝓤) (R : Fml)
+    (C : Calls 𝓤 𝓛.H) (Λ : Loops 𝓤 𝓛.H) (f : Fn) (vs : List Val) (Kf : Val → SProp 𝓤)
+    → ((bs : Blocks f.locals) → Sq 𝓛 (‵ B ∷ ‵ (flft κ q) ∷ raw P ∷ ‵ R ∷ rooms 𝓤 f.locals bs) (started C Λ f vs Kf bs))
+    → ent 𝓤 (sep 𝓤 (sep 𝓤 (sep 𝓤 (𝓛.A.lft κ q) P) (sem 𝓛 (fsep (fsep F B) R))) (emp 𝓤)) (WpFn 𝓤 𝓛.H C Λ f vs Kf)
+enters_shr 𝓛 κ q F B P R C Λ f vs Kf k = qed 𝓛 (((‵ (flft κ q) ⊛ raw P) ⊛ ‵ (fsep (fsep F B) R)) ∷ ‵ ftrue ∷ []) ∵
+    split ! $ move ! (1 ∷ []) $ fsplit ! $ fsplit ! $ move ! (3 ∷ []) $ split ! $ keep ! (3 ∷ 0 ∷ 1 ∷ 4 ∷ []) $ begins ! C Λ f vs Kf k
+
 -- the state in memory, behind a reference x that local 1 holds, is copied to local i
 pub takes-known : (S : Held) {M : Type 1} {𝓤 : Ura M} {𝓛 : Logic 𝓤} {K : Type 0} {Γ : List (Item 𝓤)} {E : Env 𝓤 𝓛.H} {C : Calls 𝓤 𝓛.H} {Λ : Loops 𝓤 𝓛.H} {p : Post 𝓤 𝓛.H} {rest : Body}
     → K → (k : ℕ) (q : Share) (x : Bor (State S)) {i l l₁ : ℕ} {τ₁ : Ty}

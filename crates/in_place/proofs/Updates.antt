@@ -89,7 +89,7 @@ had {𝓤 = 𝓤} 𝓛 alone κs a ws vss = id⊢ 𝓤 _
 had {𝓤 = 𝓤} 𝓛 reads κs a ws vss = id⊢ 𝓤 _
 had {𝓤 = 𝓤} 𝓛 reads-writes κs a ws vss = id⊢ 𝓤 _
 
--- ---- the code. The locals are the answer, the reference, the slices, the core's result, the copy of the state, and of a slice that is written its first byte's address and the slice that is handed on
+-- ---- the code. The locals are the answer, the reference, the slices, the core's result, the copy of the state, of a slice that is written its first byte's address and the slice that is handed on, and the state of the result on its way back
 abbrev slice_locals : Beside → List Local
 slice_locals alone = []
 slice_locals reads = local (slice_ty (ty_ref (named 1) imm (ty_int w8))) value_local ∷ []
