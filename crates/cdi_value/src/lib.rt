@@ -23,7 +23,9 @@ fn show(source: &[u8], out: &mut [u8]) -> usize
     requires { length source.now ≤ length out.old }
     ensures { Shows (length source.now) source.now out.old out.new result }
 {
-    bytes::copy(source, out)
+    let length = source.len();
+    out[0..length].copy_from_slice(source);
+    length
 }
 
 // How many bytes of a name are shown: those before its first 00, and that one.
