@@ -9,7 +9,7 @@ use lib.Dec.{eqb}
 use lib.ListN.{length, get_or, take, drop}
 use lib.Seq.{drop-drop}
 use Rattle.logic.proofs.Choice.{by_cases}
-use Rattle.logic.proofs.Rest.{one_more}
+use Rattle.logic.proofs.Rest.{one_more, nothing_left}
 use Rattle.coyote_packet.specs.Layout.{targets_end, targets_before}
 
 -- the count ends where the bytes end
@@ -35,6 +35,10 @@ most zero bytes = omega arith
 most (suc limit) [] = omega arith
 most (suc limit) (group ∷ rest) =
     by_cases (eqb group targets_end) (λ t. simp t (omega arith)) (λ f. simp f (omega (arith, most limit (drop 1 rest))))
+
+-- a scan that has passed i targets ends where the bytes do
+pub turn_out : (limit i : ℕ) (bytes : List ℕ) → length bytes ≤ 2 * i → targets_before limit (drop (2 * i) bytes) ≡ 0
+turn_out limit i bytes h = rw (nothing_left bytes (2 * i) h) (none_left limit)
 
 -- one turn of a scan that has passed i targets
 module _ (limit i : ℕ) (bytes : List ℕ) (l : 2 * i < length bytes) where

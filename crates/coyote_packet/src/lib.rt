@@ -117,6 +117,7 @@ pub enum Decoded {
 }
 
 // How many targets, a group and an address each, are there before the first 80 in a group's place, counted up to the limit.
+#[tactic(auto, using(crate::proofs::Targets::turn_ends, crate::proofs::Targets::turn_passes, crate::proofs::Targets::turn_out), unfolding(crate::specs::Layout::targets_before))]
 pub fn count_targets(limit: u8, bytes: &[u8]) -> usize
     ensures { result ≡ targets_before limit bytes.now }
 {
@@ -135,6 +136,7 @@ pub fn count_targets(limit: u8, bytes: &[u8]) -> usize
 }
 
 // Whether bytes are 1 to 16 whole targets, none of which has the group 80.
+#[tactic(auto, using(crate::proofs::Targets::most))]
 pub fn fits_targets(targets: &[u8]) -> bool
     ensures { result ≡ fit_targets targets.now }
 {
