@@ -1,7 +1,7 @@
 -- The packet of an accepted message is read as that message and no other packet is read as itself; a block that is read is a packet of the
 -- layout; what is written is read as that, and what is read, written again, is the same block.
 -- Assumes nothing.
-use Prim.Native.Nat.{ℕ, ◌+◌, ◌-◌}
+use Prim.Native.Nat.{ℕ, ◌+◌}
 use mathlib.Core.Path.{◌≡◌, refl, sym, ap, subst, ◌∙◌}
 use mathlib.Core.Bool.{true, and-eq-true_iff}
 use mathlib.Core.List.{List}

@@ -101,6 +101,7 @@ pub fn fits(kind: u8, size: usize) -> bool
 }
 
 // Whether messages of this type are those that the host sends, and have so many bytes of data.
+#[tactic(auto, using(crate::proofs::Types::fits_below))]
 pub fn fits_request(kind: u8, size: usize) -> bool
     ensures { result ≡ fits_in requests kind size }
 {
