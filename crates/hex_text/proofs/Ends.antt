@@ -6,15 +6,14 @@ use mathlib.Core.Bool.{Bool, true, false, ◌&&◌, and-true, and-false, false�
 use mathlib.Core.List.{List, [], ◌∷◌}
 use native.Mathlib.Omega.{arith}
 use native.Mathlib.Nat.{zero-add, add-zero}
-use borrow.Author.Tests.{eqb-true, ne_eqb, le-leb, lt-leb}
+use borrow.Author.Tests.{eqb-true, eq-eqb, ne_eqb, le-leb, lt-leb}
 use lib.Dec.{eqb}
 use lib.ListN.{length, take, drop, get_or, length-drop}
-use lib.Seq.{get_or-drop, drop-drop, take-length, length-take-le}
-use Rattle.bytes.specs.Bytes.{slice, index_of, index_after}
+use lib.Seq.{get_or-drop, drop-drop, length-take-le}
 use Rattle.logic.proofs.Choice.{by_cases}
 use Rattle.logic.proofs.Rest.{one_more, nothing_left}
 use Rattle.hex_text.specs.Scan.{is_block, spaced, is_line_end, last_pair}
-use Rattle.hex_text.specs.Hex.{block, not_hex, is_digit, is_pair, space, line_feed, pairs, hex_line, line_from, line_end}
+use Rattle.hex_text.specs.Hex.{block, not_hex, is_digit, is_pair, space, line_feed, index_of, pairs, hex_line, line_from, line_end}
 use Rattle.hex_text.proofs.Digits.{pair_digits, digit_place}
 use Rattle.hex_text.proofs.Spaced.{spaced-three, spaced-none, too_few_characters, spaced-within}
 use Rattle.hex_text.proofs.Pairs.{block_more, block-other, block-two}
@@ -32,11 +31,11 @@ no_pair_low a b e = rw (eqb-true b line_feed e) (and-false (is_digit a))
 
 -- a character, three characters, before a line's end
 index-more : (a : ℕ) (l : List ℕ) → eqb a line_feed ≡ false → index_of line_feed (a ∷ l) ≡ suc (index_of line_feed l)
-unfolding index_of index_after
+unfolding index_of
 index-more a l e = simp e
 
 index-end : (a : ℕ) (l : List ℕ) → eqb a line_feed ≡ true → index_of line_feed (a ∷ l) ≡ 0
-unfolding index_of index_after
+unfolding index_of
 index-end a l e = simp e
 
 index-three : (a b c : ℕ) (l : List ℕ) → is_pair a b && eqb c space ≡ true → index_of line_feed (a ∷ b ∷ c ∷ l) ≡ suc (suc (suc (index_of line_feed l)))
@@ -60,6 +59,25 @@ line-ends : (l : List ℕ) → is_line_end l ≡ true → index_of line_feed l �
 unfolding index_of
 line-ends [] e = refl
 line-ends (c ∷ l) e = index-end c l e
+
+index-within : (l : List ℕ) → index_of line_feed l ≤ length l
+unfolding index_of
+index-within [] = omega arith
+index-within (c ∷ l) =
+    by_cases (eqb c line_feed) (λ t. omega (arith, index-end c l t)) (λ f. omega (arith, index-more c l f, index-within l))
+
+-- where the first line feed is known, and where there is none
+pub first-there : (l : List ℕ) (k : ℕ) → k < length l → ((j : ℕ) → j < k → get_or l j 0 ≡ line_feed → ⊥) → get_or l k 0 ≡ line_feed → index_of line_feed l ≡ k
+first-there [] k h others here = absurd (omega arith)
+first-there (c ∷ l) zero h others here = index-end c l (eq-eqb c line_feed here)
+first-there (c ∷ l) (suc k) h others here =
+    index-more c l (ne_eqb c line_feed (others 0 (omega arith))) ∙ ap suc (first-there l k (omega arith) (λ j below. others (suc j) (omega arith)) here)
+
+pub nowhere : (l : List ℕ) → ((j : ℕ) → j < length l → get_or l j 0 ≡ line_feed → ⊥) → index_of line_feed l ≡ length l
+unfolding index_of
+nowhere [] others = refl
+nowhere (c ∷ l) others =
+    index-more c l (ne_eqb c line_feed (others 0 (omega arith))) ∙ ap suc (nowhere l (λ j below. others (suc j) (omega arith)))
 
 -- a last pair is two characters before its line's end
 last-ends : (l : List ℕ) → last_pair l ≡ true → (index_of line_feed l ≡ 2) × (2 ≤ length l)
@@ -169,8 +187,7 @@ pub record Skipped (text : List ℕ) (from last : ℕ) : Type 0 where
 -- no last pair stands there, and a line feed, or the end, is found from there on
 pub record Found (text : List ℕ) (last end : ℕ) : Type 0 where
   pub other : last_pair (drop last text) ≡ false
-  pub index : end ≡ last + index_of line_feed (slice last (length text) text)
-  pub inside : end ≤ length text
+  pub index : end ≡ last + index_of line_feed (drop last text)
 
 module _ {text : List ℕ} {from last : ℕ} (skipped : Skipped text from last) where
   pub last_within : last ≤ length text
@@ -206,20 +223,16 @@ module _ {text : List ℕ} {from last : ℕ} (skipped : Skipped text from last) 
 
   -- no last pair stands there: so the line is empty or not hex, and ends where the line feed is found
   module _ {end : ℕ} (found : Found text last end) where
-    found_here : end ≡ last + index_of line_feed (drop last text)
-    unfolding slice
-    found_here = rw (take-length text) at found.index
-
     pub found-end : end ≡ line_end from text
-    found-end = found_here ∙ sym end-here
+    found-end = found.index ∙ sym end-here
 
     chars : length (line_from from text) ≡ end - from
     chars =
-        length-take-le (index_of line_feed (drop from text)) (drop from text) (omega (arith, found_here, width, length-drop from text))
-        ∙ omega (arith, found_here, width)
+        length-take-le (index_of line_feed (drop from text)) (drop from text) (omega (arith, found.index, index-within (drop from text), width, length-drop from text))
+        ∙ omega (arith, found.index, index-within (drop from text), width)
 
     pub found-empty : end ≡ from → hex_line (line_from from text) ≡ block []
     found-empty e = blank (line_from from text) (omega (arith, chars)) (omega (arith, chars))
 
     pub found-other : (end ≡ from → ⊥) → hex_line (line_from from text) ≡ not_hex
-    found-other n = not_pairs (line_from from text) (λ none. n (omega (arith, chars, found_here, width))) (test_here ∙ found.other)
+    found-other n = not_pairs (line_from from text) (λ none. n (omega (arith, chars, found.index, index-within (drop from text), width))) (test_here ∙ found.other)

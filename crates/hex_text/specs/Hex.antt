@@ -1,6 +1,5 @@
 -- Document 01, "Examples": a line of upper-case hex pairs parted by one space, as it is read.
-use Rattle.std.specs.Prelude.{ℕ, ◌+◌, ◌-◌, ◌*◌, Bool, cond, ◌&&◌, ◌||◌, List, [], ◌∷◌, ltb, leb, eqb, length, drop}
-use Rattle.bytes.specs.Bytes.{index_of}
+use Rattle.std.specs.Prelude.{ℕ, suc, ◌+◌, ◌-◌, ◌*◌, Bool, cond, ◌&&◌, ◌||◌, List, [], ◌∷◌, ltb, leb, eqb, length, drop}
 use Rattle.logic.specs.Lists.{part}
 use Rattle.logic.specs.Written.{written_in}
 use Rattle.hex_text.specs.declared.HexLine.{HexLine}
@@ -45,6 +44,11 @@ pairs [] = not_hex
 pairs (high ∷ []) = not_hex
 pairs (high ∷ low ∷ []) = cond (is_pair high low) (block (pair_value high low ∷ [])) not_hex
 pairs (high ∷ low ∷ c ∷ rest) = cond (is_pair high low && eqb c space) (prepend (pair_value high low) (pairs rest)) not_hex
+
+-- the place of the first c of a list, or the list's length where there is none
+unfoldable pub index_of : ℕ → List ℕ → ℕ
+index_of c [] = 0
+index_of c (x ∷ rest) = cond (eqb x c) 0 (suc (index_of c rest))
 
 -- the line that starts at a place of a text, without its line feed; its end is the place of the line feed, or of the text's end
 -- where there is none, and a line that would start past the text's end is empty and ends there

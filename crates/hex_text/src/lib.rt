@@ -4,7 +4,9 @@
 
 ghost use Rattle.std.specs.Prelude.{◌≡◌, true, ◌+◌, ◌*◌, ◌<◌, ◌≤◌, length, drop};
 ghost use Rattle.hex_text.specs.Scan.{is_block, spaced, is_line_end, last_pair};
-ghost use Rattle.hex_text.specs.Hex.{is_digit, is_pair, pairs, line_from, line_end, hex_line, hex_line_for, line_written};
+ghost use Rattle.hex_text.specs.Hex.{is_digit, is_pair, pairs, line_feed, index_of, line_from, line_end, hex_line, hex_line_for, line_written};
+
+use memchr::memchr;
 
 // The most characters of a line of hex.
 pub const LINE_MAX: usize = 600;
@@ -132,6 +134,17 @@ fn is_last_pair(text: &[u8], at: usize) -> bool
     is_pair(text[at], text[at + 1])
 }
 
+// The place of the first line feed of `text` from `from` on, or of the text's end where it has none.
+fn find_line_feed(text: &[u8], from: usize) -> usize
+    requires { from ≤ length text.now }
+    ensures { result ≡ from + index_of line_feed (drop from text.now) }
+{
+    match memchr(LINE_FEED, &text[from..]) {
+        Some(place) => from + place,
+        None => text.len(),
+    }
+}
+
 // Reads the line of `text` that starts at `from` into the front of `block`, and finds where it ends. A line that is no block, or
 // whose block does not fit, leaves the buffer as it was: nothing is written before the whole line is known to be good. Where
 // `from` is past the end of the text, the line is empty and ends at the text's end.
@@ -152,7 +165,7 @@ pub fn read_line_at(text: &[u8], from: usize, block: &mut [u8]) -> LineAt
         let line = read_pairs(&text[from..end], block);
         return LineAt { line, end };
     }
-    let end = bytes::scan::find(text, last, text.len(), LINE_FEED);
+    let end = find_line_feed(text, last);
     if end == from {
         return LineAt {
             line: HexLine::Block(0),
