@@ -45,7 +45,8 @@ fn copy_line(line: &[u8], out: &mut [u8]) -> usize
     if line.len() > out.len() {
         return 0;
     }
-    bytes::copy(line, out)
+    out[..line.len()].copy_from_slice(line);
+    line.len()
 }
 
 // Writes bytes as a line of hex, with its line feed, over the front of `out`, and returns how many bytes that is; 0, and
