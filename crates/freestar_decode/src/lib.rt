@@ -32,7 +32,7 @@ pub fn read_frame(block: &[u8]) -> Decoded
 }
 
 // Reads a block as exactly one message of the types that are served.
-#[tactic(auto, unfolding(freestar_packet::specs::Read::read_packet))]
+#[tactic(auto, using(freestar_packet::proofs::Frame::data_within, freestar_packet::proofs::Frame::data_handed), unfolding(freestar_packet::specs::Read::read_packet))]
 pub fn decode(block: &[u8]) -> Decoded
     ensures { decoded_result result ≡ read_packet block.now }
 {
