@@ -13,7 +13,9 @@ fn put(source: &[u8], out: &mut [u8]) -> usize
     requires { length source.now ≤ length out.old }
     ensures { Writes source.now out.old out.new result }
 {
-    bytes::copy(source, out)
+    let length = source.len();
+    out[0..length].copy_from_slice(source);
+    length
 }
 
 // Writes the payload of the response to a read: its kind, the command's arguments and the value.
