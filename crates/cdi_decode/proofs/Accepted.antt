@@ -8,7 +8,7 @@ use mathlib.Core.List.{List, [], ◌∷◌, append-nil}
 use native.Mathlib.Omega.{arith}
 use borrow.Author.Tests.{eqb-true}
 use lib.Dec.{eqb, ltb, leb}
-use lib.ListN.{length, get_or, take, drop, drop_of_length-le}
+use lib.ListN.{length, get_or, take, drop_of_length-le}
 use lib.Seq.{take_all}
 use Rattle.logic.proofs.Choice.{by_cases}
 use Rattle.logic.proofs.Places.{all_is_bytes}

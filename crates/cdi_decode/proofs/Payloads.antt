@@ -1,8 +1,8 @@
 -- What a payload is read as, by how far it is the head of a response and by the value after it.
 -- Assumes nothing.
 use Prim.Native.Nat.{ℕ, zero, suc, ◌+◌, ◌-◌, ◌<◌, ◌≤◌}
-use mathlib.Core.Path.{◌≡◌, refl, sym, ap, ◌∙◌}
-use mathlib.Core.Bool.{Bool, true, cond, not, ◌&&◌}
+use mathlib.Core.Path.{◌≡◌, sym, ap, ◌∙◌}
+use mathlib.Core.Bool.{true, cond}
 use mathlib.Core.List.{List, [], ◌∷◌}
 use native.Mathlib.Nat.{zero-add, suc-add}
 use native.Mathlib.Omega.{arith}
@@ -14,7 +14,7 @@ use Rattle.logic.proofs.Choice.{by_cases}
 use Rattle.cdi_item.specs.declared.Item.{Item}
 use Rattle.cdi_decode.specs.Scan.{SameUpTo, is_whole_value}
 use Rattle.cdi_decode.specs.Follow.{is_ended, may_follow_in, no_value, may_follow, is_whole}
-use Rattle.cdi_decode.specs.Decode.{Reading, response, no_response, first_failing, place_in_value, place_in, read_as}
+use Rattle.cdi_decode.specs.Decode.{response, no_response, first_failing, place_in_value, place_in, read_as}
 use Rattle.cdi_decode.proofs.First.{first_is, first-same, first-from}
 use Rattle.cdi_decode.proofs.Rules.{empty-place, asked}
 

@@ -1,23 +1,23 @@
 -- The place of the first byte of a value that may not follow, from each item's own rule.
 -- Assumes nothing.
-use Prim.Native.Nat.{ℕ, zero, suc, ◌+◌, ◌%◌, ◌<◌, ◌≤◌}
-use mathlib.Core.Path.{◌≡◌, refl, sym, ap, ◌∙◌}
+use Prim.Native.Nat.{ℕ, zero, suc, ◌%◌, ◌<◌, ◌≤◌}
+use mathlib.Core.Path.{◌≡◌, refl, sym, ◌∙◌}
 use mathlib.Core.Bool.{Bool, true, false, cond, not, ◌&&◌, or-true, true≢false}
-use mathlib.Core.List.{List, [], ◌∷◌, ◌++◌}
+use mathlib.Core.List.{List, [], ◌∷◌}
 use native.Mathlib.Omega.{arith}
 use borrow.Author.Tests.{lt-ltb, le-ltb, ltb-true, ltb-false, lt-leb, le-leb}
-use lib.Dec.{eqb, ltb, leb}
-use lib.ListN.{length, get_or, take, drop, replicate}
+use lib.Dec.{eqb, ltb}
+use lib.ListN.{length, get_or, take}
 use lib.Seq.{take-suc, length-take-le}
-use Rattle.logic.specs.Lists.{has_zero, all_zero}
+use Rattle.logic.specs.Lists.{all_zero}
 use Rattle.logic.proofs.Choice.{by_cases}
 use Rattle.cdi_item.specs.declared.Item.{Item}
-use Rattle.cdi_item.specs.Items.{name, status, analog_input, paired_module, tx_power_code, control_source_code, message_select_code, row_length}
+use Rattle.cdi_item.specs.Items.{name, status, analog_input, paired_module, row_length}
 use Rattle.cdi_item.specs.Bits.{event_flag}
 use Rattle.cdi_item.specs.Values.{accepted_input, accepted_slot, accepted_value, accepted_flags}
 use Rattle.cdi_item.proofs.Values.{first-decides}
 use Rattle.cdi_decode.specs.Scan.{byte_or, end_of}
-use Rattle.cdi_decode.specs.Follow.{is_held, sample, completed, is_ended, may_follow_in}
+use Rattle.cdi_decode.specs.Follow.{is_held, completed, is_ended, may_follow_in}
 use Rattle.cdi_decode.specs.Decode.{place_in_value}
 use Rattle.cdi_decode.proofs.First.{first_is}
 

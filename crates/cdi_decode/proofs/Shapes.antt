@@ -1,6 +1,5 @@
 -- The lengths that the item list has for the name and for rows, and the samples, each by one computation over the whole of it.
 -- Assumes nothing.
-use Prim.Native.Nat.{ℕ}
 use mathlib.Core.Path.{◌≡◌, refl, ◌∙◌}
 use mathlib.Core.Bool.{Bool, true, not, ◌&&◌, ◌||◌, and-eq-true_iff}
 use borrow.Author.Tests.{eq-eqb, eqb-true}

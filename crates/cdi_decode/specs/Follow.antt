@@ -1,6 +1,6 @@
 -- Document 02, Ask 1: which byte may follow which in the payload of a response to a command. That these are the bytes of the module's own
 -- responses, and no others, is proved in the crate cdi_responses.
-use Rattle.std.specs.Prelude.{ℕ, ◌+◌, ◌%◌, List, [], ◌∷◌, ◌++◌, Bool, false, cond, not, ◌&&◌, eqb, ltb, leb, length, get_or, drop, replicate}
+use Rattle.std.specs.Prelude.{ℕ, ◌%◌, List, [], ◌∷◌, ◌++◌, Bool, false, cond, not, ◌&&◌, eqb, ltb, leb, length, get_or, drop, replicate}
 use Rattle.logic.specs.Lists.{has_zero}
 use Rattle.cdi_item.specs.declared.Item.{Item}
 use Rattle.cdi_item.specs.Items.{name, analog_input, status, row}
