@@ -1,9 +1,6 @@
 -- A module in use is saved and its image loaded on another module, by both laws of the image.
 -- Assumes nothing.
-use Prim.Native.Nat.{ℕ, ◌<◌}
-use mathlib.Core.Path.{◌≡◌, refl, ◌∙◌}
-use mathlib.Core.Bool.{true}
-use mathlib.Core.List.{[], ◌∷◌}
+use mathlib.Core.Path.{refl, ◌∙◌}
 use borrow.Author.Tests.{eqb-true}
 use lib.Dec.{eqb}
 use lib.ListN.{length, get_or}
@@ -14,7 +11,7 @@ use Rattle.cdi_state.specs.declared.ModuleState.{ModuleState}
 use Rattle.cdi_state.specs.State.{no_input, no_slot, StoredLengths}
 use Rattle.cdi_valid.specs.Valid.{is_valid}
 use Rattle.cdi_store.specs.Store.{setting_stored}
-use Rattle.cdi_model.specs.Cells.{nv, working, message_select_code, setting, slot, name, lines, rssi, ladj, flags, Cell, copy_of, single}
+use Rattle.cdi_model.specs.Cells.{nv, working, message_select_code, setting, slot, name, lines, rssi, ladj, flags, copy_of, single}
 use Rattle.cdi_module.specs.Machine.{cells}
 use Rattle.cdi_image.specs.Image.{image_of, saved}
 use Rattle.cdi_image.specs.Laws.{Reloaded, AfterLoad, used_stored, used_module, other_module, Moved}

@@ -31,7 +31,7 @@ fn name_in(source: &[u8]) -> [u8; NAME_LENGTH]
     ensures { result ≡ source.now }
 {
     let mut name = [0; NAME_LENGTH];
-    bytes::copy(source, &mut name);
+    name.copy_from_slice(source);
     name
 }
 

@@ -18,7 +18,7 @@ fn put(source: &[u8], at: usize, buffer: &mut [u8])
     requires { at + length source.now ≤ length buffer.old }
     ensures { buffer.new ≡ sets buffer.old at source.now }
 {
-    bytes::copy(source, &mut buffer[at..]);
+    buffer[at..at + source.len()].copy_from_slice(source);
 }
 
 fn write_head(image: &mut [u8])
