@@ -10,9 +10,8 @@ use borrow.Author.Tests.{eqb-true, le-leb, leb-true, leb-false}
 use lib.Dec.{eqb, leb}
 use lib.ListN.{length, take, drop, length-append}
 use lib.Seq.{take_all, drop-append_seam, drop-drop, length-take-le}
-use Rattle.bytes.specs.Bytes.{index_of}
 use Rattle.logic.proofs.Choice.{by_cases}
-use Rattle.hex_text.specs.Hex.{hex_line, line_feed, line_max}
+use Rattle.hex_text.specs.Hex.{hex_line, line_feed, line_max, index_of}
 use Rattle.hex_text.proofs.Lines.{too_long}
 use Rattle.response_text.specs.Text.{printed}
 use Rattle.cdi_state.specs.declared.ModuleState.{ModuleState}

@@ -1,40 +1,39 @@
 -- The lines of an input: the first of them, and how the whole lines and the one left unfinished behind them make it up.
 -- Assumes nothing.
-use Prim.Native.Nat.{ℕ, suc, ◌+◌, ◌<◌, ◌≤◌}
+use Prim.Native.Nat.{ℕ, suc, ◌<◌, ◌≤◌}
 use mathlib.Core.Path.{◌≡◌, refl, sym, ap, ◌∙◌}
 use mathlib.Core.Bool.{true, false, false≢true}
 use mathlib.Core.List.{List, [], ◌∷◌, ◌++◌, append-nil}
 use native.Mathlib.Omega.{arith}
 use lib.Dec.{eqb}
 use lib.ListN.{length, take, drop}
-use Rattle.bytes.specs.Bytes.{index_of, index_after}
 use Rattle.logic.proofs.Choice.{by_cases}
-use Rattle.hex_text.specs.Hex.{line_feed}
+use Rattle.hex_text.specs.Hex.{line_feed, index_of}
 use Rattle.replay_text.specs.Replay.{longer, lines}
 use Rattle.replay_text.specs.Answered.{has_line_feed, whole_part, unfinished}
 use Rattle.replay_text.specs.Session.{last_line}
 
 -- ---- where a line feed stands
 pub line-found : (chars : List ℕ) → index_of line_feed chars < length chars → has_line_feed chars ≡ true
-unfolding index_of index_after
+unfolding index_of
 line-found [] h = absurd (omega arith)
 line-found (c ∷ chars) h =
     by_cases (eqb c line_feed) (λ t. simp t) (λ f. simp f (line-found chars (omega (arith, simp f at h))))
 
 pub none_found : (chars : List ℕ) → length chars ≤ index_of line_feed chars → has_line_feed chars ≡ false
-unfolding index_of index_after
+unfolding index_of
 none_found [] h = refl
 none_found (c ∷ chars) h =
     by_cases (eqb c line_feed) (λ t. absurd (omega (arith, simp t at h))) (λ f. simp f (none_found chars (omega (arith, simp f at h))))
 
 pub inside : (chars : List ℕ) → has_line_feed chars ≡ true → index_of line_feed chars < length chars
-unfolding index_of index_after
+unfolding index_of
 inside [] some = absurd (false≢true some)
 inside (c ∷ chars) some =
     by_cases (eqb c line_feed) (λ t. simp t (omega arith)) (λ f. simp f (omega (arith, inside chars (simp f at some))))
 
 pub line-within : (chars : List ℕ) → index_of line_feed chars ≤ length chars
-unfolding index_of index_after
+unfolding index_of
 line-within [] = omega arith
 line-within (c ∷ chars) = by_cases (eqb c line_feed) (λ t. simp t (omega arith)) (λ f. simp f (omega (arith, line-within chars)))
 
@@ -42,7 +41,7 @@ line-within (c ∷ chars) = by_cases (eqb c line_feed) (λ t. simp t (omega arit
 -- it ends before the first line feed, whether all lines are asked for, with whatever follows, ...
 pub first-line : (chars later : List ℕ) → has_line_feed chars ≡ true
     → lines (chars ++ later) ≡ take (index_of line_feed chars) chars ∷ lines (drop (suc (index_of line_feed chars)) chars ++ later)
-unfolding lines index_of index_after
+unfolding lines index_of
 first-line [] later some = absurd (false≢true some)
 first-line (c ∷ chars) later some =
     by_cases (eqb c line_feed) (λ t. simp t) (λ f. simp (f, first-line chars later (simp f at some)))
@@ -50,7 +49,7 @@ first-line (c ∷ chars) later some =
 -- ... or the whole ones
 pub first-whole-line : (chars : List ℕ) → has_line_feed chars ≡ true
     → lines (whole_part chars) ≡ take (index_of line_feed chars) chars ∷ lines (whole_part (drop (suc (index_of line_feed chars)) chars))
-unfolding lines whole_part index_of index_after
+unfolding lines whole_part index_of
 first-whole-line [] some = absurd (false≢true some)
 first-whole-line (c ∷ chars) some =
     by_cases (eqb c line_feed) (λ t. simp t)
@@ -76,7 +75,7 @@ unfinished-has-none (c ∷ chars) =
 
 -- the unfinished line is that of what follows the first line
 pub unfinished-behind : (chars : List ℕ) → has_line_feed chars ≡ true → unfinished (drop (suc (index_of line_feed chars)) chars) ≡ unfinished chars
-unfolding unfinished index_of index_after
+unfolding unfinished index_of
 unfinished-behind [] some = absurd (false≢true some)
 unfinished-behind (c ∷ chars) some =
     by_cases (eqb c line_feed) (λ t. simp t)
