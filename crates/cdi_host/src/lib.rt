@@ -7,7 +7,7 @@ ghost use Rattle.std.proofs.lemmas.List.Edits.{sets};
 ghost use Rattle.logic.specs.Written.{written};
 ghost use Rattle.refusal.specs.Refusal.{outcome_of, buffer_after};
 ghost use Rattle.cdi_frame.specs.Frame.{command_wake_limit};
-ghost use Rattle.cdi_frame.specs.Layout.{wake as wakeByte, command_prefix, command_frame};
+ghost use Rattle.cdi_frame.specs.Layout.{wake as wake_byte, command_prefix, command_frame};
 ghost use Rattle.cdi_command.specs.Payload.{payload_max};
 ghost use Rattle.cdi_host.specs.Encode.{frame_buffer_min, encode_command};
 
@@ -21,7 +21,7 @@ pub const FRAME_BUFFER_MIN: usize = 27;
 // Writes the wake bytes from the frame's second byte on.
 fn write_wakes(wake: usize, frame: &mut [u8])
     requires { 1 + wake ≤ length frame.old }
-    ensures { frame.new ≡ sets frame.old 1 (replicate wake wakeByte) }
+    ensures { frame.new ≡ sets frame.old 1 (replicate wake wake_byte) }
 {
     let mut i: usize = 0;
     while i < wake {
@@ -48,8 +48,9 @@ fn write_frame(payload: &[u8], wake: usize, frame: &mut [u8]) -> usize
 {
     write_prefix(wake, payload.len() as u8, frame);
     let start = wake + 3;
-    bytes::copy(payload, &mut frame[start..]);
-    start + payload.len()
+    let end = start + payload.len();
+    frame[start..end].copy_from_slice(payload);
+    end
 }
 
 // Writes a payload as the frame of a command, with so many wake bytes, over the front of `frame`. The payload is validated as
