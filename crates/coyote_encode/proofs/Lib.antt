@@ -1,3 +1,4 @@
+pub mod Copied
 pub mod Enclosed
 pub mod Encoded
 pub mod Laws

@@ -25,7 +25,9 @@ fn put_data(content: &[u8], out: &mut [u8]) -> usize
 {
     out[0] = (content.len() % 256) as u8;
     out[1] = (content.len() / 256) as u8;
-    2 + bytes::copy(content, &mut out[2..])
+    let end = 2 + content.len();
+    out[2..end].copy_from_slice(content);
+    end
 }
 
 // Writes what is before the data of a packet with addresses: the source, the targets and 80.
@@ -35,13 +37,13 @@ fn put_addresses(group: u8, address: u8, targets: &[u8], out: &mut [u8]) -> usiz
 {
     out[0] = group;
     out[1] = address;
-    let end = 2 + bytes::copy(targets, &mut out[2..]);
+    let end = 2 + targets.len();
+    out[2..end].copy_from_slice(targets);
     out[end] = TARGETS_END;
     end + 1
 }
 
 // Writes the payload of AckData, NoAckData or Ack.
-#[tactic(auto, unfolding(coyote_packet::specs::Layout::payload_of))]
 fn put_addressed(
     kind: u8,
     group: u8,
@@ -59,7 +61,6 @@ fn put_addressed(
 }
 
 // Writes the payload of ReadMem.
-#[tactic(auto, unfolding(coyote_packet::specs::Layout::payload_of))]
 fn put_read_memory(space: u8, address: u16, size: u16, out: &mut [u8]) -> usize
     requires { 5 ≤ length out.old }
     ensures { Writes (payload_of (read_mem space address size)) out.old out.new result }
@@ -73,7 +74,6 @@ fn put_read_memory(space: u8, address: u16, size: u16, out: &mut [u8]) -> usize
 }
 
 // Writes the payload of Success.
-#[tactic(auto, unfolding(coyote_packet::specs::Layout::payload_of))]
 fn put_success(request: u8, content: &[u8], out: &mut [u8]) -> usize
     requires { (length content.now ≤ data_max) × (3 + length content.now ≤ length out.old) }
     ensures { Writes (payload_of (success request content.now)) out.old out.new result }
@@ -84,7 +84,6 @@ fn put_success(request: u8, content: &[u8], out: &mut [u8]) -> usize
 }
 
 // Writes the payload of Failure.
-#[tactic(auto, unfolding(coyote_packet::specs::Layout::payload_of))]
 fn put_failure(request: u8, code: u8, out: &mut [u8]) -> usize
     requires { 4 ≤ length out.old }
     ensures { Writes (payload_of (failure request code)) out.old out.new result }
@@ -117,7 +116,6 @@ fn enclose(kind: u8, size: u16, packet: &mut [u8]) -> Outcome
 }
 
 // Writes AckData, NoAckData or Ack, by its type, from the source to the targets, which are bytes: group and address in turn.
-#[tactic(auto, unfolding(coyote_packet::specs::Layout::is_accepted))]
 pub fn encode_addressed(
     kind: u8,
     group: u8,
@@ -153,7 +151,7 @@ pub fn encode_addressed(
 }
 
 // Writes a ReadMem for so many bytes of a memory space from an address on.
-#[tactic(auto, unfolding(coyote_packet::specs::Layout::is_accepted, coyote_packet::specs::Layout::payload_of))]
+#[tactic(auto, unfolding(coyote_packet::specs::Layout::payload_of))]
 pub fn encode_read_memory(space: u8, address: u16, size: u16, packet: &mut [u8]) -> Outcome
     ensures { (result ≡ outcome_of (encode (read_mem space address size) (length packet.old)))
         × (packet.new ≡ buffer_after (encode (read_mem space address size) (length packet.old)) packet.old) }
@@ -169,7 +167,7 @@ pub fn encode_read_memory(space: u8, address: u16, size: u16, packet: &mut [u8])
 }
 
 // Writes a Success: the answer to a request of that type, with data.
-#[tactic(auto, unfolding(coyote_packet::specs::Layout::is_accepted, coyote_packet::specs::Layout::payload_of))]
+#[tactic(auto, unfolding(coyote_packet::specs::Layout::payload_of))]
 pub fn encode_success(request: u8, content: &[u8], packet: &mut [u8]) -> Outcome
     ensures { (result ≡ outcome_of (encode (success request content.now) (length packet.old)))
         × (packet.new ≡ buffer_after (encode (success request content.now) (length packet.old)) packet.old) }
@@ -185,7 +183,7 @@ pub fn encode_success(request: u8, content: &[u8], packet: &mut [u8]) -> Outcome
 }
 
 // Writes a Failure: the answer to a request of that type, with its code.
-#[tactic(auto, unfolding(coyote_packet::specs::Layout::is_accepted, coyote_packet::specs::Layout::payload_of))]
+#[tactic(auto, unfolding(coyote_packet::specs::Layout::payload_of))]
 pub fn encode_failure(request: u8, code: u8, packet: &mut [u8]) -> Outcome
     ensures { (result ≡ outcome_of (encode (failure request code) (length packet.old)))
         × (packet.new ≡ buffer_after (encode (failure request code) (length packet.old)) packet.old) }
