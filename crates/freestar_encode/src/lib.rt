@@ -14,7 +14,6 @@ use freestar_packet::{DATA_START, END, OVERHEAD, START, SUM_START};
 use refusal::{FRAME_BUFFER_SHORT, NONE, Outcome, PACKET_CONTENT, PAN_ID_OVER};
 
 // Writes the packet of a type and data, and returns its length.
-#[tactic(auto, unfolding(freestar_packet::specs::Layout::packet_bytes))]
 fn put_packet(kind: u8, content: &[u8], packet: &mut [u8]) -> usize
     requires { (length content.now ≤ data_max) × (overhead + length content.now ≤ length packet.old) }
     ensures { Writes (packet_bytes kind content.now) packet.old packet.new result }
@@ -22,7 +21,8 @@ fn put_packet(kind: u8, content: &[u8], packet: &mut [u8]) -> usize
     packet[0] = START;
     packet[1] = OVERHEAD + content.len() as u8;
     packet[2] = kind;
-    let sum_at = DATA_START + bytes::copy(content, &mut packet[DATA_START..]);
+    let sum_at = DATA_START + content.len();
+    packet[DATA_START..sum_at].copy_from_slice(content);
     let sum = checksum::sum_from(SUM_START, &packet[0..sum_at]);
     packet[sum_at] = sum;
     packet[sum_at + 1] = END;
@@ -30,7 +30,7 @@ fn put_packet(kind: u8, content: &[u8], packet: &mut [u8]) -> usize
 }
 
 // Writes a message of a type that is served.
-#[tactic(auto, unfolding(freestar_packet::specs::Encode::encode))]
+#[tactic(auto, using(freestar_packet::proofs::Types::fits_small, freestar_packet::proofs::Frame::packet_length_lem), unfolding(freestar_packet::specs::Encode::encode))]
 pub fn encode(kind: u8, content: &[u8], packet: &mut [u8]) -> Outcome
     ensures { (result ≡ outcome_of (encode kind content.now (length packet.old)))
         × (packet.new ≡ buffer_after (encode kind content.now (length packet.old)) packet.old) }
