@@ -2,11 +2,8 @@
 -- Assumes nothing.
 use Prim.Native.Nat.{ℕ, ◌+◌, ◌-◌, ◌≤◌}
 use mathlib.Core.Path.{◌≡◌, refl, sym, ap, ◌∙◌, subst}
-use mathlib.Core.Bool.{true, false, cond, ◌&&◌, and-eq-true_iff}
 use mathlib.Core.List.{List, ◌++◌}
 use native.Mathlib.Omega.{arith}
-use borrow.Author.Tests.{eq-eqb}
-use lib.Dec.{eqb}
 use lib.ListN.{length, take, drop, length-append}
 use lib.Seq.{drop-drop}
 use Rattle.logic.specs.Lists.{part, Bytes}
@@ -24,15 +21,15 @@ use Rattle.cdi_command.specs.declared.Command.{Command}
 use Rattle.cdi_command.specs.declared.Command.TheVariants.{Read as ReadPlain, ReadIndexed, ReadNv, ReadNvIndexed, Write, WriteIndexed, Program, ProgramIndexed, SetDefault, EraseAll}
 use Rattle.cdi_command.specs.Command.{validate_payload}
 use Rattle.cdi_command.specs.Payload.{response_buffer_min}
-use Rattle.cdi_host.specs.Encode.{encode_command, TakenAs}
+use Rattle.cdi_host.specs.Encode.{TakenAs}
 use Rattle.cdi_host.proofs.Taken.{encoded_taken}
 use Rattle.cdi_decode.specs.Follow.{head_of}
-use Rattle.cdi_decode.specs.Decode.{Reading, response, no_response, start_of, response_wakes, payload_start, read_as, read_payload, read_framed, decode_response}
+use Rattle.cdi_decode.specs.Decode.{Reading, response, start_of, response_wakes, payload_start, read_payload, read_framed, decode_response}
 use Rattle.cdi_state.specs.declared.ModuleState.{ModuleState}
 use Rattle.cdi_value.specs.Value.{value_read}
 use Rattle.cdi_module.specs.Module.{command_in}
 use Rattle.cdi_responses.specs.Held.{ValidState}
-use Rattle.cdi_responses.specs.Theorem.{Possible, told, Means, Read, BlockTheorem, FullCircle, EveryCircle}
+use Rattle.cdi_responses.specs.Theorem.{told, Means, Read, BlockTheorem, FullCircle, EveryCircle}
 use Rattle.cdi_responses.proofs.Exchange.{response_payload_of, responds_to, responds_so}
 use Rattle.cdi_responses.proofs.Theorem.{possible-read, start-most, tells, reader_theorem}
 

@@ -2,8 +2,8 @@
 -- Assumes nothing.
 use Prim.Native.Nat.{ℕ, ◌≤◌}
 use mathlib.Core.Path.{◌≡◌, refl, sym, ap, ◌∙◌, subst}
-use mathlib.Core.Bool.{true, false, true≢false}
-use mathlib.Core.List.{List, [], ◌∷◌, ◌++◌, append-nil}
+use mathlib.Core.Bool.{true, false}
+use mathlib.Core.List.{List, [], ◌++◌, append-nil}
 use native.Mathlib.Omega.{arith}
 use borrow.Author.Tests.{le-ltb}
 use lib.ListN.{length, take, drop, replicate}
@@ -25,7 +25,7 @@ use Rattle.cdi_valid.specs.Valid.{is_valid}
 use Rattle.cdi_value.specs.Value.{value_read}
 use Rattle.cdi_value.proofs.Values.{none_read}
 use Rattle.cdi_model.specs.Step.{StepResult, powered_up, responded, request, command}
-use Rattle.cdi_module.specs.Module.{command_in, decide, response_to, result_of}
+use Rattle.cdi_module.specs.Module.{command_in, decide, result_of}
 use Rattle.cdi_responses.specs.Theorem.{RespondsIn, Responds}
 
 -- a response's payload is its head and the value

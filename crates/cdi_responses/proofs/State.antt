@@ -11,7 +11,7 @@ use lib.Seq.{length-take-le}
 use Rattle.logic.proofs.Places.{all_is_bytes}
 use Rattle.cdi_state.specs.declared.Settings.{Settings}
 use Rattle.cdi_state.specs.declared.ModuleState.{ModuleState}
-use Rattle.cdi_state.specs.State.{input_bytes, slot_bytes, input_in, slot_in, no_slot, input_at, ArrayLengths, OffsetLengths, FieldLengths}
+use Rattle.cdi_state.specs.State.{input_bytes, input_in, slot_in, no_slot, input_at, ArrayLengths, OffsetLengths, FieldLengths}
 use Rattle.cdi_state.proofs.Rows.{input-written, slot_written}
 use Rattle.cdi_model.specs.Cells.{Copy, nv, working, Setting, line_mask_code, latch_mask_code, tx_power_code, control_source_code, message_select_code, interrupt_mask_code, Key, setting, input, slot, address, Single, name, firmware, serial, lines, rssi, ladj, events, flags, hardwarePower, hardwareLineMask, hardwareLatchMask, Cell, copy_of, single, has_working, is_key, is_cell}
 use Rattle.cdi_model.specs.Values.{byte_of}

@@ -7,7 +7,7 @@ use mathlib.Core.List.{List, [], ◌∷◌, ◌++◌, append-nil}
 use native.Mathlib.Omega.{arith}
 use borrow.Author.Tests.{eqb-true, eq-eqb, leb-true}
 use lib.Dec.{eqb}
-use lib.ListN.{length, get_or, take, drop, length-take, length-drop, length-append}
+use lib.ListN.{length, get_or, take, drop, length-take, length-drop}
 use lib.Seq.{length-take-le, take_all, take-take, get_or-take, drop-append_seam}
 use Rattle.logic.specs.Lists.{part, Bytes}
 use Rattle.logic.proofs.Choice.{by_cases}
@@ -20,7 +20,7 @@ use Rattle.cdi_command.specs.Payload.{command_payload, ack_response, no_error, W
 use Rattle.cdi_command.specs.Kind.{is_read}
 use Rattle.cdi_command.proofs.Accepted.{accepted_well_formed, accepted-payload}
 use Rattle.cdi_decode.specs.Follow.{no_value, head_of, value_item, may_follow, is_whole}
-use Rattle.cdi_decode.specs.Decode.{Reading, response, no_response, place_in, start_of, read_as, read_payload}
+use Rattle.cdi_decode.specs.Decode.{response, no_response, place_in, start_of, read_as, read_payload}
 use Rattle.cdi_decode.proofs.First.{first-most, first_below, first-at}
 use Rattle.cdi_state.specs.declared.ModuleState.{ModuleState}
 use Rattle.cdi_value.specs.Value.{value_read}

@@ -2,14 +2,13 @@
 -- begin what some valid state can show.
 -- Assumes nothing.
 use Prim.Native.Nat.{ℕ, zero, suc, ◌-◌, ◌<◌, ◌≤◌}
-use mathlib.Core.Path.{◌≡◌, refl, sym, ap, ◌∙◌, subst}
-use mathlib.Core.Bool.{Bool, true, false, not, ◌&&◌, and-eq-true_iff, true≢false}
+use mathlib.Core.Path.{◌≡◌, refl, sym, ap, ◌∙◌}
+use mathlib.Core.Bool.{true, false, not, and-eq-true_iff, true≢false}
 use mathlib.Core.List.{List, [], ◌∷◌, ◌++◌, append-nil}
-use native.Mathlib.Numerals.{add-one}
 use native.Mathlib.Omega.{arith}
 use borrow.Author.Tests.{eqb-true, ltb-true, ltb-false, le-leb, leb-true, leb-false, not-true}
-use lib.Dec.{eqb, ltb, leb}
-use lib.ListN.{length, get_or, take, drop, replicate, length-append, length-drop, drop_of_length-le}
+use lib.Dec.{eqb, ltb}
+use lib.ListN.{length, get_or, take, drop, length-append, length-drop, drop_of_length-le}
 use lib.Seq.{length-take-le, take_all, take_at, get_or-take, take-take}
 use Rattle.logic.specs.Lists.{has_zero, Bytes}
 use Rattle.logic.proofs.Bytes.{bytes_take, bytes_drop}
@@ -28,7 +27,7 @@ use Rattle.cdi_decode.proofs.Names.{zero_taken, at_zero}
 use Rattle.cdi_decode.proofs.Payloads.{none-follows}
 use Rattle.cdi_value.specs.Value.{name_shown}
 use Rattle.cdi_responses.specs.Held.{Held, shown}
-use Rattle.cdi_responses.proofs.Shown.{FirstZero, first_zero, front-shown, all_shown}
+use Rattle.cdi_responses.proofs.Shown.{first_zero, front-shown, all_shown}
 
 -- bytes that a valid state can have, which begin as a value does up to the place of its first wrong byte, and are the value if it is whole
 pub record BegunBy (x : Item) (v : List ℕ) : Type 0 where
