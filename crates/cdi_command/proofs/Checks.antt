@@ -2,13 +2,13 @@
 -- Assumes nothing.
 use Prim.Native.Nat.{ℕ}
 use mathlib.Core.Path.{◌≡◌, refl, sym, ◌∙◌}
-use mathlib.Core.Bool.{Bool, true, false, cond, not, ◌||◌}
+use mathlib.Core.Bool.{Bool, true, false, cond, ◌||◌}
 use mathlib.Core.List.{List}
 use borrow.Author.Tests.{eq-eqb, ne_eqb}
 use lib.Dec.{eqb, leb}
 use lib.ListN.{length}
 use Rattle.logic.proofs.Choice.{by_cases, neither}
-use Rattle.refusal.specs.Refusal.{Result, accepted, refused, and_then, none, command_not_served, wrong_length, wrong_index}
+use Rattle.refusal.specs.Refusal.{Result, accepted, refused, and_then, none, command_not_served, wrong_length}
 use Rattle.cdi_item.specs.declared.Item.{Item}
 use Rattle.cdi_item.specs.declared.Value.{Value}
 use Rattle.cdi_item.specs.Items.{item_of}
@@ -20,15 +20,8 @@ use Rattle.cdi_command.specs.Check.{is_read_code, unless_refused, bare_command, 
 
 -- what a number tells of a result
 module _ (n : ℕ) (r x : Result Command) (e : unless_refused n r ≡ x) where
-  pub refused_with : (n ≡ none → ⊥) → x ≡ refused n
-  refused_with h = sym e ∙ rw (ne_eqb n none h)
-
   pub passed : n ≡ none → x ≡ r
   passed h = sym e ∙ rw (eq-eqb n none h)
-
-pub index-decides : (t : Bool) (c : Command) → unless_refused (cond t none wrong_index) (accepted c) ≡ cond (not t) (refused wrong_index) (accepted c)
-index-decides true c = refl
-index-decides false c = refl
 
 -- the definition, where the command is about no item ...
 either_code : (a b : Bool) → a || b ≡ true → (r : Result Command)

@@ -3,7 +3,6 @@ pub mod Zeros
 pub mod Shapes
 pub mod Rules
 pub mod Names
-pub mod Eights
 pub mod Heads
 pub mod Accepted
 pub mod Wholes

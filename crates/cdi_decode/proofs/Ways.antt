@@ -38,11 +38,11 @@ module _ (sent p : List ℕ) (x : Item) (two : 2 ≤ length sent) (n : ℕ) (sam
   as_a_read = read_as (read_head sent) x (length sent) p
 
   pub wrong_argument : n < length sent → as_a_read ≡ no_response n
-  wrong_argument h = wrong_head (read_head sent) x p (length sent) n same (omega (arith, head-length sent p two))
+  wrong_argument h = wrong_head (read_head sent) x p (length sent) n same (omega (arith, head-length sent two))
 
   module _ (past : length sent ≤ n) where
     head-whole : length (read_head sent) ≡ n
-    head-whole = omega (arith, head-length sent p two, same.within-expected)
+    head-whole = omega (arith, head-length sent two, same.within-expected)
 
     -- the value, as it is handed on
     abbrev value : List ℕ
@@ -52,7 +52,7 @@ module _ (sent p : List ℕ) (x : Item) (two : 2 ≤ length sent) (n : ℕ) (sam
     value_is = ap (λ (k : ℕ). drop k p) head-whole ∙ sym (all_rest n p)
 
     starts : length sent ≡ n
-    starts = omega (arith, head-length sent p two, head-whole)
+    starts = omega (arith, head-length sent two, head-whole)
 
     decided : as_a_read ≡ cond (is_whole_value x value) (response n (length value)) (no_response (n + place_in_value x value))
     decided =

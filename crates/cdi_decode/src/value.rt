@@ -165,7 +165,6 @@ fn first_of(value: &[u8]) -> Value
 }
 
 // Of a slot the mask has a rule, which is about the address too.
-#[tactic(auto, unfolding(cdi_item::specs::Values::accepted_value))]
 fn place_in_slot(item: Item, value: &[u8]) -> usize
     requires { (item.code ≡ paired_module) × (item.length ≡ row_length) }
     ensures { result ≡ place_in_value item value.now }
