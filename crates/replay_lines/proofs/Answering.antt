@@ -8,10 +8,9 @@ use native.Mathlib.Omega.{arith}
 use borrow.Author.Tests.{le-leb, lt-leb}
 use lib.ListN.{length, take, drop, length-append, length-drop, take-append-drop}
 use lib.Seq.{take_all, take_at, drop_at, drop-drop, length-take-le}
-use Rattle.bytes.specs.Bytes.{index_of}
 use Rattle.logic.specs.Written.{written}
 use Rattle.logic.proofs.Rest.{nothing_left}
-use Rattle.hex_text.specs.Hex.{hex_line, line_feed}
+use Rattle.hex_text.specs.Hex.{hex_line, line_feed, index_of}
 use Rattle.response_text.specs.Text.{printed}
 use Rattle.cdi_state.specs.declared.ModuleState.{ModuleState}
 use Rattle.replay_text.specs.Replay.{lines, line_text, line_state, lines_text, lines_state}
@@ -50,6 +49,15 @@ module _ (output text after : List ℕ) (used : ℕ) (within : used ≤ length o
 
   pub rest-behind : drop (used + length text) (take used output ++ (after ++ drop (length output - used) (drop used output))) ≡ drop (used + length text) output
   rest-behind = rw behind (drop_at (take used output ++ text) (drop (used + length text) output) (used + length text) front)
+
+-- the buffer keeps its length
+pub length-kept : (output after : List ℕ) (used : ℕ) → used ≤ length output → length after ≡ length (take (length output - used) (drop used output))
+    → length (take used output ++ (after ++ drop (length output - used) (drop used output))) ≡ length output
+length-kept output after used within same =
+    let size = length-drop used output in
+    let rest = nothing_left (drop used output) (length output - used) (omega arith) in
+    let whole = take_all (length output - used) (drop used output) (omega arith) in
+    rw (rest, append-nil) (omega (arith, length-append (take used output) after, length-take-le used output within, ap length whole))
 
 -- ---- the lines
 -- the lines that are still to be answered from a place of the input on

@@ -7,12 +7,11 @@ use native.Mathlib.Omega.{arith}
 use borrow.Author.Tests.{leb-true, le-leb}
 use lib.Dec.{leb}
 use lib.ListN.{length, take, drop, length-drop}
-use Rattle.bytes.specs.Bytes.{index_of}
 use Rattle.logic.proofs.Choice.{by_cases}
 use Rattle.logic.proofs.Written.{written-front}
 use Rattle.hex_text.specs.declared.HexLine.{HexLine}
 use Rattle.hex_text.specs.declared.HexLine.TheVariants.{NoRoom}
-use Rattle.hex_text.specs.Hex.{Line, block, not_hex, hex_line, line_feed, line_from, line_end, hex_line_for, line_written}
+use Rattle.hex_text.specs.Hex.{Line, block, not_hex, hex_line, line_feed, index_of, line_from, line_end, hex_line_for, line_written}
 use Rattle.hex_text.proofs.Laws.{room-enough}
 use Rattle.replay_text.proofs.Lines.{line-within}
 use Rattle.replay_lines.specs.Progress.{block_max, line_read, ReadWithin}
