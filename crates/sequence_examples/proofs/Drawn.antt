@@ -11,7 +11,7 @@ use Rattle.sequence_examples.proofs.Computed.{some_stores, none-stores}
 use Rattle.cdi_state.specs.declared.ModuleState.{ModuleState}
 use Rattle.cdi_state.specs.State.{ArrayLengths}
 use Rattle.cdi_model.specs.Cells.{Cell}
-use Rattle.cdi_model.specs.Step.{Step, StepResult}
+use Rattle.cdi_model.specs.Step.{StepResult}
 use Rattle.cdi_model.specs.Model.{Cells, decide, model}
 use Rattle.cdi_model.specs.Apart.{are_apart}
 use Rattle.cdi_model.proofs.Apart.{apart_is_computed}

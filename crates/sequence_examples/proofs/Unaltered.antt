@@ -2,7 +2,7 @@
 -- alone. So by the sequence theorem no number of them alters the first.
 -- Assumes nothing.
 use mathlib.Core.Path.{◌≡◌, refl}
-use mathlib.Core.Bool.{Bool, true, false}
+use mathlib.Core.Bool.{false}
 use mathlib.Core.List.{List, [], ◌∷◌, map}
 use Rattle.logic.proofs.Choice.{by_cases}
 use Rattle.sequence.specs.Model.{stores_in}
