@@ -1,16 +1,16 @@
 -- Of readings that pass both tests: their number, their sum and their scaled mean are bounded.
 -- Assumes nothing.
-use Prim.Native.Nat.{ℕ, ◌*◌, ◌/◌, ◌<◌, ◌≤◌}
+use Prim.Native.Nat.{ℕ, ◌*◌, ◌/◌, ◌≤◌}
 use mathlib.Core.Path.{◌≡◌}
-use mathlib.Core.Bool.{false, ◌||◌}
+use mathlib.Core.Bool.{false}
 use mathlib.Core.List.{List, [], ◌∷◌}
 use native.Mathlib.Omega.{arith}
 use native.Mathlib.Nat.{div-le_of_le-mul}
-use borrow.Author.Tests.{eqb-false, ltb-false}
-use lib.Dec.{eqb, ltb}
+use borrow.Author.Tests.{ltb-false}
+use lib.Dec.{ltb}
 use lib.ListN.{length}
 use Rattle.logic.proofs.Choice.{neither}
-use Rattle.analog.specs.Analog.{readings_max, reading_max, readout_max, scale, any_over, sum_of}
+use Rattle.analog.specs.Analog.{reading_max, readout_max, scale, any_over, sum_of}
 
 pub sum_bounded : (rs : List ℕ) → any_over rs ≡ false → sum_of rs ≤ reading_max * length rs
 unfolding sum_of
@@ -22,9 +22,3 @@ sum_bounded (r ∷ rs) e =
 -- so their mean, scaled, is a readout
 pub mean_bounded : (sum n : ℕ) → sum ≤ reading_max * n → scale * sum / n ≤ readout_max
 mean_bounded sum n h = div-le_of_le-mul n (omega arith)
-
--- the passed test of their number
-pub counted : (n : ℕ) → eqb n 0 || ltb readings_max n ≡ false → (0 < n) × (n ≤ readings_max)
-counted n e =
-    let t = neither (eqb n 0) (ltb readings_max n) e in
-    omega (arith, eqb-false n 0 t.0, ltb-false readings_max n t.1)
