@@ -57,7 +57,6 @@ fn row_in(bytes: &[u8]) -> [u8; ROW_LENGTH]
     [bytes[0], bytes[1], bytes[2], bytes[3], bytes[4]]
 }
 
-#[tactic(auto, unfolding(crate::specs::Image::slots_in))]
 fn slots_in(rows: &[u8]) -> [Slot; SLOT_COUNT]
     requires { length rows.now ≡ slot_count * row_length }
     ensures { result ≡ slots_in slot_count rows.now }

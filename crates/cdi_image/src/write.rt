@@ -79,7 +79,6 @@ fn write_slots(slots: [Slot; SLOT_COUNT], contents: &mut [u8])
 }
 
 // Writes the contents over the front of what stands behind the head.
-#[tactic(auto, unfolding(crate::specs::Image::contents_of))]
 fn write_contents(stored: Stored, contents: &mut [u8])
     requires { contents_size ≤ length contents.old }
     ensures { Put contents.old 0 (contents_of stored) contents_size contents.new }

@@ -1,4 +1,4 @@
--- A name as it is shown, the row of an input, a value that fits, and that a command which is no read reads nothing.
+-- A name as it is shown, the row of an input, and that a command which is no read reads nothing.
 -- Assumes nothing.
 use Prim.Native.Nat.{ℕ, zero, suc, ◌+◌, ◌-◌, ◌<◌, ◌≤◌}
 use mathlib.Core.Path.{◌≡◌, refl}
@@ -10,14 +10,13 @@ use borrow.Author.Tests.{eq-eqb, ne_eqb}
 use lib.ListN.{length, get_or, take, drop}
 use lib.Seq.{take-suc, take-length, drop-length}
 use Rattle.logic.proofs.Rest.{one_more}
-use Rattle.logic.proofs.Written.{writes-none}
 use Rattle.cdi_command.specs.declared.Command.{Command}
 use Rattle.cdi_command.specs.declared.Command.TheVariants.{Read, ReadIndexed, ReadNv, ReadNvIndexed, Write, WriteIndexed, Program, ProgramIndexed, SetDefault, EraseAll}
 use Rattle.cdi_command.specs.Kind.{is_read}
 use Rattle.cdi_state.specs.declared.Settings.{Settings}
 use Rattle.cdi_state.specs.declared.ModuleState.{ModuleState}
 use Rattle.cdi_state.specs.State.{no_input, input_at}
-use Rattle.cdi_value.specs.Value.{name_shown, value_read, Shows}
+use Rattle.cdi_value.specs.Value.{name_shown, value_read}
 
 module _ (l : List ℕ) (i : ℕ) (h : i < length l) where
   one-taken : take (i + 1) l ≡ take i l ++ (get_or l i 0 ∷ [])
@@ -37,14 +36,6 @@ module _ (l : List ℕ) (i : ℕ) (h : i < length l) where
 pub shown-all : (l : List ℕ) (i : ℕ) → i ≡ length l → take i l ++ name_shown (drop i l) ≡ l
 unfolding name_shown
 shown-all l i e = rw (e, take-length l, drop-length l, append-nil)
-
--- a value that fits into some room fits into more
-pub shows_more : {n m k : ℕ} {v before after : List ℕ} → Shows n v before after k → n ≤ m → Shows m v before after k
-shows_more {m = m} h le = record { few = omega (arith, h.few); writes = h.writes }
-
--- nothing fits into any room
-pub shows_none : {room : ℕ} (before : List ℕ) → Shows room [] before before 0
-shows_none before = record { few = omega arith; writes = writes-none before }
 
 -- inputs count from 1
 pub input-at : (t : Settings) (n : ℕ) → 1 ≤ n → input_at t n ≡ get_or t.analog_inputs (n - 1) no_input

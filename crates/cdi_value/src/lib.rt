@@ -19,6 +19,7 @@ const LINE_MASK_FROM_SETTING: u8 = 0x08;
 const LATCH_MASK_FROM_SETTING: u8 = 0x10;
 
 // Each function that has an `out` writes a value over its front, and returns how many bytes that is.
+#[tactic(auto, unfolding(logic::specs::Written::written))]
 fn show(source: &[u8], out: &mut [u8]) -> usize
     requires { length source.now ≤ length out.old }
     ensures { Shows (length source.now) source.now out.old out.new result }
@@ -93,6 +94,7 @@ fn show_name(name: [u8; NAME_LENGTH], out: &mut [u8]) -> usize
     show(&name[0..length], out)
 }
 
+#[tactic(auto, unfolding(logic::specs::Written::written))]
 fn show_byte(byte: u8, out: &mut [u8]) -> usize
     requires { value_max ≤ length out.old }
     ensures { Shows value_max (byte ∷ []) out.old out.new result }
@@ -102,7 +104,7 @@ fn show_byte(byte: u8, out: &mut [u8]) -> usize
 }
 
 // The byte of an item in one copy of the settings; nothing for a code that is no setting's.
-#[tactic(auto, unfolding(crate::specs::Value::setting_value))]
+#[tactic(auto, unfolding(crate::specs::Value::setting_value, logic::specs::Written::written))]
 fn show_setting(settings: Settings, item: u8, out: &mut [u8]) -> usize
     requires { value_max ≤ length out.old }
     ensures { Shows value_max (setting_value settings item) out.old out.new result }
@@ -129,7 +131,7 @@ fn show_setting(settings: Settings, item: u8, out: &mut [u8]) -> usize
 }
 
 // The value of an item that has no index, its settings from one copy.
-#[tactic(auto, unfolding(crate::specs::Value::status_shown, crate::specs::Value::plain_value))]
+#[tactic(auto, unfolding(crate::specs::Value::plain_value))]
 fn read_plain(state: ModuleState, settings: Settings, item: u8, out: &mut [u8]) -> usize
     requires { value_max ≤ length out.old }
     ensures { Shows value_max (plain_value state settings item) out.old out.new result }
@@ -177,6 +179,7 @@ fn read_plain(state: ModuleState, settings: Settings, item: u8, out: &mut [u8]) 
 }
 
 // A row of an indexed item: slots count from 0, inputs from 1. Nothing where there is no such row.
+#[tactic(auto, unfolding(logic::specs::Written::written))]
 fn read_row(stored: Stored, settings: Settings, index: Index, out: &mut [u8]) -> usize
     requires { row_length ≤ length out.old }
     ensures { Shows row_length (row_value stored settings index) out.old out.new result }
@@ -203,6 +206,7 @@ fn read_row(stored: Stored, settings: Settings, index: Index, out: &mut [u8]) ->
 
 // Writes what a command reads over the front of `out`, and returns how many bytes that is: Read the working copy, Read NV the stored one,
 // any other command nothing. Where `out` has less room than the longest value, nothing is read.
+#[tactic(auto, unfolding(logic::specs::Written::written))]
 pub fn read(state: ModuleState, command: Command, out: &mut [u8]) -> usize
     ensures { Shows (value_room command) (value_into (length out.old) state command) out.old out.new result }
 {
