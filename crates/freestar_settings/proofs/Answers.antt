@@ -27,7 +27,7 @@ unfolding is_accepted fits_in
 address-accepted bytes size = simp size
 
 pub address-length : (s : Settings) → length s.long_address ≡ 8 → length s.short_address ≡ 2 → length (address_bytes s) ≡ 10
-address-length s long short = omega (arith, length-append s.long_address s.short_address)
+address-length s long short = omega (arith, length-append {A = ℕ})
 
 pub channel-accepted : (c : ℕ) → is_accepted respond_channel (c ∷ []) ≡ true
 unfolding is_accepted fits_in

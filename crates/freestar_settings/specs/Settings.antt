@@ -1,6 +1,6 @@
 -- Document 02, Ask 11: the settings as a struct, and what a message does to them. The contract of `execute` cites `step` and `result_of`; the
 -- theorem on sequences holds them against the reference model.
-use Rattle.std.specs.Prelude.{ℕ, ◌+◌, ◌≡◌, cond, ◌&&◌, List, [], ◌∷◌, ◌++◌, eqb, length, get_or, take}
+use Rattle.std.specs.Prelude.{ℕ, ◌≡◌, cond, ◌&&◌, List, [], ◌∷◌, ◌++◌, eqb, length, get_or, take}
 use Rattle.logic.specs.Lists.{part}
 use Rattle.refusal.specs.Refusal.{Result, accepted, refused, and_then, packet_content, pan_id_over}
 use Rattle.freestar_packet.specs.declared.Message.{Message}

@@ -46,7 +46,7 @@ pub struct Executed {
 }
 
 // Accepts a block as a message from the host, or gives the number of its refusal: 24 to 28. The room for the answer is not looked at.
-#[tactic(auto, unfolding(crate::specs::Settings::validate))]
+#[tactic(auto, using(freestar_packet::proofs::Frame::data_within, freestar_packet::proofs::Frame::data_handed), unfolding(crate::specs::Settings::validate))]
 fn accept(settings: Settings, block: &[u8]) -> Decoded
     ensures { decoded_result result ≡ validate settings block.now }
 {
@@ -106,7 +106,7 @@ fn addresses(settings: Settings) -> [u8; 10]
 }
 
 // The settings after a message of this type with these data.
-#[tactic(auto, unfolding(crate::specs::Settings::stored))]
+#[tactic(auto, using(logic::proofs::Places::part_is_bytes), unfolding(crate::specs::Settings::stored, freestar_packet::specs::Layout::fits_in))]
 fn store(mut settings: Settings, kind: u8, content: &[u8]) -> Settings
     requires { fits_in requests kind (length content.now) ≡ true }
     ensures { result ≡ stored settings kind content.now }
