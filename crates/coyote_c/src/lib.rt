@@ -1,4 +1,5 @@
-// The entries of include/coyote.h, which says what each reads and writes. No enum crosses the C boundary.
+// The entries of include/coyote.h, which says what each reads and writes. No enum crosses the C boundary. `coyote_exports` has each under
+// the name that C calls.
 #![tactic(auto)]
 
 ghost use Rattle.std.specs.Prelude.{◌≡◌, length};
@@ -25,16 +26,14 @@ pub struct ChargeFields {
 }
 
 // Reads a block as one packet.
-#[unsafe(no_mangle)]
-pub extern "C" fn coyote_decode(block: &[u8]) -> PacketFields
+pub fn coyote_decode(block: &[u8]) -> PacketFields
     ensures { result ≡ fields_of (read_packet block.now) }
 {
     coyote_fields::decode_fields(block)
 }
 
 // Writes AckData, NoAckData or Ack, by its type.
-#[unsafe(no_mangle)]
-pub extern "C" fn coyote_encode_addressed(
+pub fn coyote_encode_addressed(
     kind: u8,
     group: u8,
     address: u8,
@@ -49,13 +48,7 @@ pub extern "C" fn coyote_encode_addressed(
 }
 
 // Writes ReadMem.
-#[unsafe(no_mangle)]
-pub extern "C" fn coyote_encode_read_memory(
-    space: u8,
-    address: u16,
-    size: u16,
-    packet: &mut [u8],
-) -> Outcome
+pub fn coyote_encode_read_memory(space: u8, address: u16, size: u16, packet: &mut [u8]) -> Outcome
     ensures { (result ≡ outcome_of (encode (read_mem space address size) (length packet.old)))
         × (packet.new ≡ buffer_after (encode (read_mem space address size) (length packet.old)) packet.old) }
 {
@@ -63,8 +56,7 @@ pub extern "C" fn coyote_encode_read_memory(
 }
 
 // Writes Success.
-#[unsafe(no_mangle)]
-pub extern "C" fn coyote_encode_success(request: u8, content: &[u8], packet: &mut [u8]) -> Outcome
+pub fn coyote_encode_success(request: u8, content: &[u8], packet: &mut [u8]) -> Outcome
     ensures { (result ≡ outcome_of (encode (success request content.now) (length packet.old)))
         × (packet.new ≡ buffer_after (encode (success request content.now) (length packet.old)) packet.old) }
 {
@@ -72,8 +64,7 @@ pub extern "C" fn coyote_encode_success(request: u8, content: &[u8], packet: &mu
 }
 
 // Writes Failure.
-#[unsafe(no_mangle)]
-pub extern "C" fn coyote_encode_failure(request: u8, code: u8, packet: &mut [u8]) -> Outcome
+pub fn coyote_encode_failure(request: u8, code: u8, packet: &mut [u8]) -> Outcome
     ensures { (result ≡ outcome_of (encode (failure request code) (length packet.old)))
         × (packet.new ≡ buffer_after (encode (failure request code) (length packet.old)) packet.old) }
 {
@@ -81,8 +72,7 @@ pub extern "C" fn coyote_encode_failure(request: u8, code: u8, packet: &mut [u8]
 }
 
 // Writes the charge of an analog input as NoAckData.
-#[unsafe(no_mangle)]
-pub extern "C" fn coyote_export_charge(
+pub fn coyote_export_charge(
     sequence: u8,
     group: u8,
     address: u8,
@@ -102,8 +92,7 @@ pub extern "C" fn coyote_export_charge(
 }
 
 // Reads a block as the packet of a charge.
-#[unsafe(no_mangle)]
-pub extern "C" fn coyote_import_charge(block: &[u8]) -> ChargeFields
+pub fn coyote_import_charge(block: &[u8]) -> ChargeFields
     ensures { result ≡ charge_fields (import_charge block.now) }
 {
     let imported = coyote_charge::import_charge(block);
