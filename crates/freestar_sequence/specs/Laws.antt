@@ -1,5 +1,5 @@
 -- Document 02, Ask 11: what holds of messages on settings, one by one and in sequences. The statements alone; `proofs/` has their proofs.
-use Rattle.std.specs.Prelude.{ℕ, ◌≡◌, true, List, [], ◌∷◌, ◌++◌, eqb, length, get_or, take}
+use Rattle.std.specs.Prelude.{ℕ, ◌≡◌, true, List, [], ◌∷◌, ◌++◌, eqb, get_or, take}
 use Rattle.logic.specs.Lists.{any}
 use Rattle.sequence.specs.Model.{last_or}
 use Rattle.sequence.specs.Machine.{run, given, NoneStores, Claims}
