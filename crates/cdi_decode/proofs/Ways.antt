@@ -11,8 +11,9 @@ use lib.Seq.{take_all}
 use Rattle.cdi_item.specs.declared.Item.{Item}
 use Rattle.cdi_command.specs.Payload.{ack_response, no_error}
 use Rattle.cdi_decode.specs.Scan.{SameUpTo, read_head, is_whole_value}
-use Rattle.cdi_decode.specs.Follow.{no_value}
+use Rattle.cdi_decode.specs.Follow.{no_value, may_follow_in}
 use Rattle.cdi_decode.specs.Decode.{Reading, response, no_response, place_in_value, read_as}
+use Rattle.cdi_decode.proofs.First.{first-most}
 use Rattle.cdi_decode.proofs.Heads.{head-length}
 use Rattle.cdi_decode.proofs.Payloads.{same_from, wrong_head, value-decides, none-follows}
 
@@ -64,6 +65,12 @@ module _ (sent p : List ℕ) (x : Item) (two : 2 ≤ length sent) (n : ℕ) (sam
 
     pub wrong_value : is_whole_value x value ≡ false → as_a_read ≡ no_response (n + place_in_value x value)
     wrong_value f = decided ∙ rw f
+
+-- the place in a value is within it
+pub place_most : (x : Item) (v : List ℕ) → place_in_value x v ≤ length v
+place_most x v = first-most (length v) (λ i. may_follow_in x (take i v) (get_or v i 0))
+
+pub ruleset value_ways = (wrong_argument, right-value, wrong_value, place_most, rest-length)
 
 -- ---- the response to another command: two bytes, and the command's payload again
 module _ (sent p : List ℕ) where
@@ -120,3 +127,5 @@ module _ (sent p : List ℕ) where
             let empty : 0 ≡ length (drop (length echo_head) p) = omega (arith, length-drop (length echo_head) p, rest-length 2 p, whole-head) in
             value-decides echo_head no_value p 2 whole_echo ∙
             rw (none, eq-eqb 0 (length (drop (length echo_head) p)) empty, (none-follows (drop (length echo_head) p)).1) (ap (response 2) long)
+
+pub ruleset echo_ways = (wrong_ack, wrong_error, wrong_echo, more_bytes, right_echo)

@@ -159,6 +159,7 @@ fn count_head(sent: &[u8], payload: &[u8]) -> usize
 }
 
 // Reads a payload as the response to a read: its head, then the value.
+#[tactic(auto, using(crate::proofs::Ways::value_ways))]
 fn read_value(item: Item, sent: &[u8], payload: &[u8]) -> Decoded
     requires { (item_of item.code ≡ accepted item) × (2 ≤ length sent.now) × (length sent.now ≤ 3) × (1 ≤ length payload.now) }
     ensures { result ≡ reading_fields (read_as (read_head sent.now) item (length sent.now) payload.now) }
@@ -175,6 +176,7 @@ fn read_value(item: Item, sent: &[u8], payload: &[u8]) -> Decoded
 }
 
 // Reads a payload as the response to a command that is no read: two bytes, then the payload that was sent.
+#[tactic(auto, using(crate::proofs::Ways::echo_ways))]
 fn read_echo(sent: &[u8], payload: &[u8]) -> Decoded
     requires { 1 ≤ length payload.now }
     ensures { result ≡ reading_fields (read_as (ack_response ∷ no_error ∷ sent.now) no_value 2 payload.now) }
