@@ -321,10 +321,10 @@ a parameter as it was given. *Cites* names the definitions that the fact uses; t
 `crates/NAME/must-fail/`), or `.ci/more` (from `tests/edits/NAME/`). *Error* and *Refused* are the head of the edit's file. *Refused* names the fact that
 can no longer be proved:
 
-- `returns` is the fact that the result and the buffers are what the contract says; a number after it says at which return.
-- `loop-again` is the fact that a loop keeps its invariant.
+- `returns` is the fact that the result and the buffers are what the contract says; what follows the word says at which return.
+- A name that ends in -init is the fact that a loop's invariant holds at first, in -preserved that the loop keeps it, in -smaller that the loop comes nearer to its end.
 - A name that ends in -requires is what the called function asks of its arguments.
-- `told`, in `cdi_c` and `freestar_c`, is the fact that what the function by value says of its result is what the entry says of the struct in place.
+- A name that begins with overflow_ is the fact that a number fits its type, with bounds- or slice_bounds- that a place is within a list.
 - `runs_hold`, in `cdi_model`, computes whole runs of the model on literal bytes; `table_unpadded` computes that the table names no cell too many.
 """
 

@@ -29,6 +29,7 @@ from library import Problem
 
 ROOT = os.path.dirname(os.path.dirname(os.path.abspath(__file__)))
 DECISIONS = "docs/DECISIONS.md"
+PORT = "docs/PORT.md"  # the page on the toolchain before today's, which names what is gone
 TRACE = "docs/TRACE.md"
 
 ENDINGS = (".antt", ".c", ".edit", ".h", ".log", ".md", ".py", ".rt", ".txt")
