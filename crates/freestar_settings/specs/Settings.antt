@@ -16,7 +16,7 @@ pub record ArrayLengths (s : Settings) : Type 0 where
   pub long-address : length s.long_address ≡ 8
   pub short-address : length s.short_address ≡ 2
 
-abbrev pub settings : (pan_id_cell long_address_cell short_address_cell : List ℕ) (channel : ℕ) → Settings
+abbrev pub settings : (pan_id long_address short_address : List ℕ) (channel : ℕ) → Settings
 settings p l a c = record { pan_id = p; long_address = l; short_address = a; channel = c }
 
 -- 004, messages 03 and 04: "Long Address", then "Short Address"
