@@ -1,5 +1,6 @@
 // The entries of include/freestar.h, which says what each reads and writes. No enum crosses the C boundary. The settings stay where the
 // caller has them and are updated there: `freestar_execute` calls `execute` with their value and stores the settings of its result.
+// `freestar_exports` has each entry under the name that C calls.
 #![tactic(auto)]
 
 ghost use Rattle.std.specs.Prelude.{◌≡◌, length};
@@ -24,8 +25,7 @@ pub struct MessageFields {
 }
 
 // Reads a block as one message.
-#[unsafe(no_mangle)]
-pub extern "C" fn freestar_decode(block: &[u8]) -> MessageFields
+pub fn freestar_decode(block: &[u8]) -> MessageFields
     ensures { result ≡ message_fields (read_packet block.now) }
 {
     let decoded = freestar_decode::decode(block);
@@ -44,8 +44,7 @@ pub extern "C" fn freestar_decode(block: &[u8]) -> MessageFields
 }
 
 // Writes a message.
-#[unsafe(no_mangle)]
-pub extern "C" fn freestar_encode(kind: u8, content: &[u8], packet: &mut [u8]) -> Outcome
+pub fn freestar_encode(kind: u8, content: &[u8], packet: &mut [u8]) -> Outcome
     ensures { (result ≡ outcome_of (encode kind content.now (length packet.old)))
         × (packet.new ≡ buffer_after (encode kind content.now (length packet.old)) packet.old) }
 {
@@ -53,12 +52,7 @@ pub extern "C" fn freestar_encode(kind: u8, content: &[u8], packet: &mut [u8]) -
 }
 
 // Executes one message on the settings.
-#[unsafe(no_mangle)]
-pub extern "C" fn freestar_execute(
-    settings: &mut Settings,
-    block: &[u8],
-    response: &mut [u8],
-) -> Outcome
+pub fn freestar_execute(settings: &mut Settings, block: &[u8], response: &mut [u8]) -> Outcome
     ensures { (settings.new ≡ step settings.old (delivery block.now (length response.old)))
         × (result ≡ outcome_of (result_of settings.old (delivery block.now (length response.old))))
         × (response.new ≡ buffer_after (result_of settings.old (delivery block.now (length response.old))) response.old) }
