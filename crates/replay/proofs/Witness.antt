@@ -84,14 +84,14 @@ run_on {s = s} {chars = chars} turns [] some short =
     let text = next-text s chars line false true 0 next refl turn.left [] (λ e. refl) in
     let room = room-left next line [] (omega (arith, sizes (lines_text s (answers s chars)) (replayed_from next (line ++ [])) (replayed_from s (chars ++ [])) text)) in
     turn_goes_on (stop (then turns turn) (ends-here next line room) is_done) refl
-run_on {s = s} {chars = chars} turns (part ∷ parts) some short =
+run_on {n = n} {s = s} {chars = chars} turns (part ∷ parts) some short =
     let each = (and-eq-true_iff (ltb 0 (length part)) (all (λ p. ltb 0 (length p)) parts)).0 some in
     let turn = reads_on s chars (room-left s chars (part ++ joined parts) short) part false (rw each.0) in
     let there = kept_of (left_after s chars) ++ part in
     let next = lines_state s (answers s chars) in
     let text = next-text s chars there false false (length part) next refl turn.left (joined parts) (λ e. absurd (false≢true e)) in
     let short-rest = sizes (lines_text s (answers s chars)) (replayed_from next (there ++ joined parts)) (replayed_from s (chars ++ (part ++ joined parts))) text in
-    rw (append_assoc (reads_of turns) (part ∷ []) (parts ++ [] ∷ [])) at (run_on (then turns turn) parts each.1 (omega arith))
+    rw (append_assoc (reads_of turns) (part ∷ []) (parts ++ [] ∷ [])) at (run_on {n = suc n} (then turns turn) parts each.1 (omega arith))
 
 -- ---- the runs
 printed-text : (parts : List (List ℕ)) → GoesOn (parts ++ [] ∷ []) → Prints (parts ++ [] ∷ []) (model_replayed (joined parts))

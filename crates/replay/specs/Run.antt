@@ -1,11 +1,11 @@
 -- A whole run of the program: the turns that the loop in `replay` makes, why it ends, and what is printed by then. The contract of
 -- `replay` says that the session that it returns, and both buffers, are those after such turns.
 --
--- No contract can say what a call of C reads or writes, so the following is outside the proof and is tested instead:
+-- No contract can say what a call of the system reads or writes, so the following is outside the proof and is tested instead:
 -- - `print` writes the front of the output buffer to standard output, once and before more is read, and `printed` is its result;
 -- - `read_input` reads standard input, `count` and `failed` are the result, and the characters given are those read;
 -- - `main` calls `replay` once, and `report` writes the reason to standard error if not all is done;
--- - what the C library and the system do in these calls.
+-- - what the standard library, the C library and the system do in these calls.
 -- So a program that made up what it reads would meet these contracts; the tests rule that out.
 use Rattle.std.specs.Prelude.{ℕ, suc, ◌≡◌, Bool, true, false, ◌⊎◌, List, [], ◌∷◌, ◌++◌, length, take}
 use Rattle.std.proofs.Common.{inl, inr}

@@ -13,12 +13,23 @@ ghost use Rattle.replay.specs.Run.{Stops};
 
 use cdi_state::ModuleState;
 use hex_text::{LINE_FEED, LINE_MAX};
-use libc::{STDERR_FILENO, STDIN_FILENO, STDOUT_FILENO};
 use replay_lines::PRINTED_MAX;
+use std::io;
+use std::io::{Print, Read, Stdin, Stdout};
+
+const BUFFER_SIZE: usize = 65536;
 
 // The most that is kept of a line whose end is still to be read. A line with one character too many stays too long whatever follows,
 // so the rest of it need not be kept.
 const KEPT_MAX: usize = LINE_MAX + 1;
+
+// Standard input and output, and why the last read or print that failed did so.
+#[derive(Clone, Copy)]
+struct Streams {
+    input: Stdin,
+    output: Stdout,
+    error: Option<io::Error>,
+}
 
 // The result of a read: how many bytes it gave, and whether it failed. If it gave none and did not fail, the input has ended.
 #[derive(Clone, Copy)]
@@ -65,16 +76,22 @@ fn keep(input: &mut [u8], from: usize, end: usize) -> usize
 }
 
 // Reads once, into `input` after its first `kept` bytes, and returns the result.
-fn read_input(input: &mut [u8], kept: usize) -> Piece
+fn read_input(streams: &mut Streams, input: &mut [u8], kept: usize) -> Piece
     requires { kept ≤ length input.old }
     ensures { (kept + result.count ≤ length input.old) × (take kept input.new ≡ take kept input.old) }
 {
-    let part = &mut input[kept..];
-    let got = libc::read(STDIN_FILENO, part);
-    let count = io::count(got, part);
-    Piece {
-        count,
-        failed: got < 0,
+    match streams.input.read(&mut input[kept..]) {
+        Ok(count) => Piece {
+            count,
+            failed: false,
+        },
+        Err(error) => {
+            streams.error = Some(error);
+            Piece {
+                count: 0,
+                failed: true,
+            }
+        }
     }
 }
 
@@ -96,13 +113,13 @@ fn take_in(input: &mut [u8], kept: usize, count: usize, failed: bool) -> usize
 }
 
 // Keeps input[from..end], a line whose end is still to be read, at the front, and reads on after it.
-fn refill(input: &mut [u8], from: usize, end: usize) -> Filled
+fn refill(streams: &mut Streams, input: &mut [u8], from: usize, end: usize) -> Filled
     requires { (length input.old ≡ buffer_size) × (from ≤ end) × (end ≤ buffer_size) }
     ensures { (result.end ≤ buffer_size)
         × Refilled (kept_of (between from end input.old)) (take result.end input.new) result.count result.failed }
 {
     let kept = keep(input, from, end);
-    let piece = read_input(input, kept);
+    let piece = read_input(streams, input, kept);
     let count = piece.count;
     let failed = piece.failed;
     let end = take_in(input, kept, count, failed);
@@ -110,13 +127,19 @@ fn refill(input: &mut [u8], from: usize, end: usize) -> Filled
 }
 
 // Prints a text and returns whether all of it was written.
-fn print(text: &[u8]) -> bool {
-    io::write_all(STDOUT_FILENO, text)
+fn print(streams: &mut Streams, text: &[u8]) -> bool {
+    match streams.output.write_all(text) {
+        Ok(()) => true,
+        Err(error) => {
+            streams.error = Some(error);
+            false
+        }
+    }
 }
 
 // Answers as many lines as there is room for, prints the responses, and reads on if no whole line is left. It prints before it reads,
 // so that a user who types a line at a time sees each response before the next line.
-fn turn(session: Session, input: &mut [u8], output: &mut [u8]) -> Session
+fn turn(streams: &mut Streams, session: Session, input: &mut [u8], output: &mut [u8]) -> Session
     requires { (length input.old ≡ buffer_size) × (length output.old ≡ buffer_size)
         × (session.start ≤ session.end) × (session.end ≤ buffer_size) }
     ensures { (result.start ≤ result.end) × (result.end ≤ buffer_size)
@@ -131,7 +154,7 @@ fn turn(session: Session, input: &mut [u8], output: &mut [u8]) -> Session
     let state = progress.state;
     let written = progress.written;
     let start = from + progress.consumed;
-    let printed = print(&output[0..written]);
+    let printed = print(streams, &output[0..written]);
     // If the output is full, whole lines may be left. If not, only a line is left whose end is still to be read.
     let full = output.len() - written < PRINTED_MAX;
     if !printed | full | ended {
@@ -146,7 +169,7 @@ fn turn(session: Session, input: &mut [u8], output: &mut [u8]) -> Session
             failed: false,
         };
     }
-    let filled = refill(input, start, end);
+    let filled = refill(streams, input, start, end);
     let count = filled.count;
     let failed = filled.failed;
     Session {
@@ -163,7 +186,7 @@ fn turn(session: Session, input: &mut [u8], output: &mut [u8]) -> Session
 
 // Runs turns until all is done, a print or a read fails, or the turns are used up, and returns the last one's session. A proved loop
 // has to end, and the input may never end, so the turns are counted down from a number that no run uses up.
-fn replay(input: &mut [u8], output: &mut [u8]) -> Session
+fn replay(streams: &mut Streams, input: &mut [u8], output: &mut [u8]) -> Session
     requires { (length input.old ≡ buffer_size) × (length output.old ≡ buffer_size) }
     ensures { Stops output.new result.state (between result.start result.end input.new) result.ended
         result.done result.printed result.count result.failed }
@@ -180,7 +203,7 @@ fn replay(input: &mut [u8], output: &mut [u8]) -> Session
     };
     let mut turns = u64::MAX;
     loop {
-        session = turn(session, input, output);
+        session = turn(streams, session, input, output);
         turns -= 1;
         let done = session.done;
         let printed = session.printed;
@@ -191,30 +214,51 @@ fn replay(input: &mut [u8], output: &mut [u8]) -> Session
     }
 }
 
-// Reports on standard error why the program stopped before all was done. `os::fail` adds the system's reason for the last call that
-// failed, which is the print or the read: the program makes no call after it. No contract can say what is written, so
-// `tests/test_replay.py` provokes each message, the last one in a program with two turns.
-fn report(done: bool, printed: bool, failed: bool) {
-    if done {
-        return;
+// The system's words for an error, without the number that `Display` writes after them.
+fn words(text: &str) -> &str {
+    match text.split_once(" (os error ") {
+        Some((words, _)) => words,
+        None => text,
     }
-    if !printed {
-        os::fail(b"replay: standard output cannot be written");
-        return;
-    }
-    if failed {
-        os::fail(b"replay: standard input cannot be read");
-        return;
-    }
-    io::write_all(
-        STDERR_FILENO,
-        b"replay: stopped after 18446744073709551615 turns, with input left\n",
-    );
 }
 
-fn main() {
-    let mut input = io::large_buffer();
-    let mut output = io::large_buffer();
-    let last = replay(&mut input, &mut output);
-    report(last.done, last.printed, last.failed);
+// Says what went wrong and the system's reason, or only what went wrong where there is no memory for the reason.
+fn explain(rt: &(impl Eprint + AllocGlobal), what: &str, error: io::Error) -> io::Result<()> {
+    match format!(in rt.alloc(); "{error}") {
+        Ok(text) => {
+            let reason = words(text.as_str());
+            eprintln!(rt; "replay: {what}: {reason}")
+        }
+        Err(_) => eprintln!(rt; "replay: {what}"),
+    }
+}
+
+// Reports on standard error why the program stopped before all was done. No contract can say what is written, so
+// `tests/test_replay.py` provokes each message, the last one in a program with two turns.
+fn report(
+    rt: &(impl Eprint + AllocGlobal),
+    last: Session,
+    error: Option<io::Error>,
+) -> io::Result<()> {
+    if last.done {
+        return Ok(());
+    }
+    match error {
+        Some(error) if !last.printed => explain(rt, "standard output cannot be written", error),
+        Some(error) => explain(rt, "standard input cannot be read", error),
+        None => eprintln!(rt; "replay: stopped after 18446744073709551615 turns, with input left"),
+    }
+}
+
+fn main(rt: HostRuntime) {
+    let mut streams = Streams {
+        input: rt.stdin(),
+        output: rt.stdout(),
+        error: None,
+    };
+    let mut input = [0u8; BUFFER_SIZE];
+    let mut output = [0u8; BUFFER_SIZE];
+    let last = replay(&mut streams, &mut input, &mut output);
+    // Where standard error cannot be written, nobody can be told.
+    let _ = report(&rt, last, streams.error);
 }
