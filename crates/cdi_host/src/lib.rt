@@ -48,9 +48,8 @@ fn write_frame(payload: &[u8], wake: usize, frame: &mut [u8]) -> usize
 {
     write_prefix(wake, payload.len() as u8, frame);
     let start = wake + 3;
-    let end = start + payload.len();
-    frame[start..end].copy_from_slice(payload);
-    end
+    byte_copy::copy(payload, &mut frame[start..]);
+    start + payload.len()
 }
 
 // Writes a payload as the frame of a command, with so many wake bytes, over the front of `frame`. The payload is validated as
