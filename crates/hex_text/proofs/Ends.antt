@@ -11,7 +11,6 @@ use lib.Dec.{eqb}
 use lib.ListN.{length, take, drop, get_or, length-drop}
 use lib.Seq.{get_or-drop, drop-drop, length-take-le}
 use Rattle.logic.proofs.Choice.{by_cases}
-use Rattle.logic.proofs.Rest.{one_more, nothing_left}
 use Rattle.hex_text.specs.Scan.{is_block, spaced, is_line_end, last_pair}
 use Rattle.hex_text.specs.Hex.{block, not_hex, is_digit, is_pair, space, line_feed, index_of, pairs, hex_line, line_from, line_end}
 use Rattle.hex_text.proofs.Digits.{pair_digits, digit_place}
@@ -147,14 +146,8 @@ last-here [] h = absurd (omega arith)
 last-here (a ∷ []) h = absurd (omega arith)
 last-here (a ∷ b ∷ l) h = refl
 
--- whether a line ends, and whether its last pair stands, at a place of a text
+-- whether the last pair of a line stands at a place of a text
 module _ (text : List ℕ) (i : ℕ) where
-  pub text-end : i ≡ length text → is_line_end (drop i text) ≡ true
-  text-end e = rw (nothing_left text i (omega arith)) refl
-
-  pub before-end : i < length text → is_line_end (drop i text) ≡ eqb (get_or text i 0) line_feed
-  before-end h = rw (one_more text i 0 h) refl
-
   pub too_short : length text - i < 2 → last_pair (drop i text) ≡ false
   too_short h = last-short (drop i text) (rw length-drop h)
 

@@ -1,18 +1,17 @@
 -- What is kept of a line whose end is still to be read: how it is moved to the front, and what is there after a read.
 -- Assumes nothing.
 use Prim.Native.Nat.{ℕ, ◌+◌, ◌-◌, ◌<◌, ◌≤◌}
-use mathlib.Core.Path.{◌≡◌, refl, sym, ap, ◌∙◌}
-use mathlib.Core.Bool.{Bool, true, false, ◌||◌}
-use mathlib.Core.List.{List, [], ◌∷◌, ◌++◌}
+use mathlib.Core.Path.{◌≡◌, sym, ap, ◌∙◌}
+use mathlib.Core.Bool.{Bool, true, ◌||◌}
+use mathlib.Core.List.{List}
 use native.Mathlib.Numerals.{add-one}
 use native.Mathlib.Omega.{arith}
 use lib.Dec.{ltb}
 use lib.ListN.{length, take, drop, get_or, set, length-drop}
 use lib.Seq.{take_all, take-take, take-add, take-suc, take-suc-set, drop-set-lt, drop-drop, get_or-drop, length-take-le}
-use Rattle.hex_text.specs.Hex.{line_feed}
-use Rattle.replay_text.specs.Session.{kept_max, kept_of, last_line}
+use Rattle.replay_text.specs.Session.{kept_max, kept_of}
 use Rattle.logic.specs.Lists.{between}
-use Rattle.replay.specs.Program.{is_end, chars_after, Refilled}
+use Rattle.replay.specs.Program.{is_end, chars_after}
 
 -- one byte more is moved to the front: what is still to be moved is as it was
 module _ (moved first : List ℕ) (from i : ℕ) (same : length moved ≡ length first) (inside : from + i < length first) where
@@ -42,10 +41,6 @@ module _ (l : List ℕ) (from end i : ℕ) (before : from + i ≤ end) (inside :
       let all : end - from ≡ i = omega arith in
       rw all (sym (take_all kept_max (take i (drop from l)) (rw (length-take-le i (drop from l) (omega arith)) few)))
 
-with_line_feed : (line : List ℕ) → 0 < length line → line ++ line_feed ∷ [] ≡ last_line line
-with_line_feed [] some = absurd (omega arith)
-with_line_feed (c ∷ line) some = refl
-
 -- ---- what is there after a read that follows the first k characters of a buffer
 module _ (input : List ℕ) (k count : ℕ) (failed : Bool) where
   abbrev pub After : List ℕ → Type 0
@@ -54,24 +49,3 @@ module _ (input : List ℕ) (k count : ℕ) (failed : Bool) where
   -- what it gave, if anything, follows what is kept
   pub some-given : failed || ltb 0 count ≡ true → After (take (k + count) input)
   some-given e = rw e (take-add k count input)
-
-  module _ (ended : failed || ltb 0 count ≡ false) where
-    -- the input ended and nothing was kept
-    pub ended-empty : k ≡ 0 → After []
-    ended-empty none = rw (ended, none)
-
-    -- the input ended within a line
-    pub ended-line : (k ≡ 0 → ⊥) → k < length input → After (take (k + 1) (set input k line_feed))
-    ended-line some inside =
-        rw (ended, add-one, take-suc-set input k line_feed inside)
-        (with_line_feed (take k input) (omega (arith, length-take-le k input (omega arith), some)))
-
-pub refilled-after : (kept moved input chars : List ℕ) (k count : ℕ) (failed : Bool) → take k moved ≡ kept → take k input ≡ take k moved
-    → k + count ≤ length input → After input k count failed chars → Refilled kept chars count failed
-refilled-after kept moved input chars k count failed front still room after =
-    let given = take count (drop k input) in
-    record {
-      given = given;
-      as_counted = length-take-le count (drop k input) (omega (arith, length-drop k input));
-      taken = after ∙ ap (λ (l : List ℕ). chars_after l given (is_end count failed)) (still ∙ front);
-    }

@@ -1,7 +1,7 @@
 -- What is printed for a line fits into the room that is kept for it.
 -- Assumes nothing.
 use Prim.Native.Nat.{ℕ, ◌<◌, ◌≤◌}
-use mathlib.Core.Path.{◌≡◌, ◌∙◌, subst}
+use mathlib.Core.Path.{◌≡◌, ◌∙◌}
 use mathlib.Core.List.{List}
 use native.Mathlib.Omega.{arith}
 use borrow.Author.Tests.{le-leb}
@@ -11,8 +11,6 @@ use Rattle.logic.specs.Written.{length_in, written_in}
 use Rattle.response_text.specs.Text.{text_in_hex, printed}
 use Rattle.response_text.proofs.Text.{text_in_hex-length}
 use Rattle.cdi_command.specs.Payload.{response_buffer_min}
-use Rattle.cdi_model.specs.Step.{StepResult}
-use Rattle.replay_text.specs.Replay.{result_text}
 use Rattle.replay_text.specs.Answered.{printed_max}
 use Rattle.replay_lines.specs.Progress.{Prints}
 
@@ -30,8 +28,3 @@ pub response-short : (response : List ℕ) (n : ℕ) → 0 < n → n ≤ length 
 response-short response n some within few =
     let taken = length-take-le n response within in
     omega (arith, text_in_hex-length (take n response) (omega arith))
-
--- what is printed goes by the step's result alone
-pub same-result : (a b : StepResult) (before after : List ℕ) (count : ℕ) → a ≡ b
-    → Prints (result_text a) before after count → Prints (result_text b) before after count
-same-result a b before after count e = subst (λ (r : StepResult). Prints (result_text r) before after count) e
