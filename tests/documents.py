@@ -10,8 +10,9 @@ What is in backticks is one of these, by the first rule that applies:
   or to the folder or the crate of what the same passage names before it. A file's name alone exists if some file has it. A path
   that begins with src/, specs/, proofs/ or must-fail/ exists if some crate has it and no crate is named before it. In a path `*`,
   NAME, CRATE and a part of one capital letter stand for anything. What is under target/ or an out/ is built, and is not looked for.
-- A goal: what the prover calls a fact that it has to find a proof of, by its form (GOAL). It is in no source where the prover finds the
-  proof alone.
+- A goal: what the prover calls a fact that it has to find a proof of, by its form (GOAL). Where the prover finds the proof alone the
+  whole is in no source, but each word that its hyphens join is: a word of a source, or one of the prover's own (GOAL_WORDS), or a
+  number that a condition or an arm compares with.
 - A name: all else, and a file that ends as a built one does (BUILT). It is a whole word of a source, not only of a comment or an
   import, or the name of a file or a folder. `a::b` is in the sources of the crate a, or both parts are in one source. After the
   path of a source in the same passage a name is in that source, and before `in` or a bracket and a path or a crate it is there.
@@ -64,6 +65,11 @@ GOAL = re.compile(
     r"returns(?:-[\w\-]+)?|ensures-\w+|[\w\-]+-(?:init|preserved|smaller|requires(?:-[\w\-]+)?)"
     r"|(?:overflow|nonzero)_\w+-[\w\-]+|(?:slice_|offset_)?bounds-[\w\-]+|invariant_of-[\w\-]+|prove-[\w\-]+"
 )
+GOAL_WORDS = set(
+    "returns ensures then else after in not default loop init preserved smaller requires result bounds slice_bounds offset_bounds"
+    " overflow_add overflow_sub overflow_mul overflow_cast overflow_step nonzero_div nonzero_rem eq ne lt le gt ge".split()
+)
+COMPARED = re.compile(r"(?:eq|ne|lt|le|gt|ge)[0-9]+")
 ANYTHING = re.compile(r"NAME|CRATE|(?<![^/])[A-Z](?![^/])")
 
 
@@ -204,6 +210,16 @@ def form_of(token):
     if GOAL.fullmatch(token):
         return "goal"
     return "name" if NAME.fullmatch(token) or is_path(token) else "text"
+
+
+def unknown_in_goal(goal):
+    """The words of a goal's name that are neither the prover's nor of a source. A bare number is the arm of a `match`, after `in`, or the
+    place in a list whose bounds are asked."""
+    words = goal.split("-")
+    for before, word in zip(["", *words], words):
+        number = word.isdigit() and (before == "in" or words[0] == "bounds")
+        if not (number or word in GOAL_WORDS or COMPARED.fullmatch(word) or not word.isdigit() and is_known(word)):
+            yield word
 
 
 def found_at(path, bases=("", "crates")):

@@ -31,6 +31,7 @@ from documents import (
     read,
     rows_of,
     sources,
+    unknown_in_goal,
 )
 from library import Problem, run_test
 
@@ -99,6 +100,8 @@ class Passage:
                 yield from self.path_faults(token)
             elif form == "name":
                 yield from self.name_faults(place)
+            elif form == "goal":
+                yield from (f"`{word}` of the goal `{token}` is in no source" for word in unknown_in_goal(token))
             elif form == "id" and token not in decision_ids():
                 yield f"there is no decision {token}"
 
@@ -204,6 +207,9 @@ SAMPLES = {
     "`refusal/specs/Refusal.antt` has no `Written`": ["`Written` is not in crates/refusal/specs/Refusal.antt"],  # in an import alone
     "`refusal/specs/Refusal.antt`, and `read_frame` in `cdi_frame/specs/Frame.antt`": [],
     "`read_frame` in `cdi_frame`, `read_frame` in `cdi_item`": ["`read_frame` is not in the crate"],
+    # goals
+    "`returns`, `returns-then-block`, `loop-i-preserved`, `wake_end-requires`, `returns-then-number-eq0`, `returns-in-134`": [],
+    "`returns-99`, `none_such-requires`": ["`99` of the goal `returns-99` is in no source", "`none_such` of the goal `none_such-requires` is in no source"],
     # ids
     "`FRAME-1`": [],
     "`FRAME-99` and `NONE-1`": ["there is no decision FRAME-99", "there is no decision NONE-1"],
