@@ -21,8 +21,7 @@ fn put_packet(kind: u8, content: &[u8], packet: &mut [u8]) -> usize
     packet[0] = START;
     packet[1] = OVERHEAD + content.len() as u8;
     packet[2] = kind;
-    let sum_at = DATA_START + content.len();
-    packet[DATA_START..sum_at].copy_from_slice(content);
+    let sum_at = DATA_START + byte_copy::copy(content, &mut packet[DATA_START..]);
     let sum = checksum::sum_from(SUM_START, &packet[0..sum_at]);
     packet[sum_at] = sum;
     packet[sum_at + 1] = END;
