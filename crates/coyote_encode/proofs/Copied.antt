@@ -1,13 +1,17 @@
--- A head is stored at the front of a buffer, and a list copied in behind it.
-use Rattle.std.proofs.Common.{◌≡◌, ℕ, ◌≤◌, List, ◌++◌, length, take, drop, sym, ◌∙◌, append_assoc, length-append}
-use lib.Seq.{sets, drop-drop}
-use Rattle.logic.specs.Written.{written}
-use Rattle.logic.proofs.Written.{stores, written-front, written-rest}
+-- A head stands over the front of a buffer, and a list that fits is copied in behind it.
+use Rattle.std.proofs.Common.{◌≡◌, ℕ, ◌+◌, ◌≤◌, List, ◌++◌, length, true, leb, ap, ◌∙◌, arith}
+use Rattle.std.proofs.lemmas.Bool.{le-leb}
+use Rattle.logic.specs.Written.{written, length_in, written_in}
+use Rattle.logic.proofs.Written.{part_from, with_part, part_room, written_behind, written-length}
 
-pub copied_behind : (s head p : List ℕ) (n k : ℕ) → n ≡ length head → k ≡ length p → length head ≤ length s
-    → take n (sets s 0 head) ++ (p ++ drop k (drop n (sets s 0 head))) ≡ written s (head ++ p)
-unfolding written
-copied_behind s head p n k at long room =
-    let rest = drop (length p) (drop (length head) s) in
-    rw (stores s head room, at, long, written-front s head, written-rest s head)
-    (sym (append_assoc head p rest) ∙ rw (drop-drop (length p) (length head) s, length-append head p))
+module _ (s head p : List ℕ) {n : ℕ} {t : List ℕ} (at : n ≡ length head) (is : t ≡ written s head) (room : length head + length p ≤ length s) where
+  fits : leb (length p) (length (part_from n t)) ≡ true
+  fits =
+      le-leb (length p) (length (part_from n t))
+      (omega (arith, at, room, part_room n t, ap length is, written-length s head (omega (arith, room))))
+
+  pub copied_length : {told : ℕ} → told ≡ length_in (part_from n t) p → told ≡ length p
+  copied_length e = e ∙ rw fits
+
+  pub copied_behind : {part : List ℕ} → part ≡ written_in (part_from n t) p → with_part n t part ≡ written s (head ++ p)
+  copied_behind e = written_behind s head p at is (e ∙ rw fits)

@@ -25,9 +25,7 @@ fn put_data(content: &[u8], out: &mut [u8]) -> usize
 {
     out[0] = (content.len() % 256) as u8;
     out[1] = (content.len() / 256) as u8;
-    let end = 2 + content.len();
-    out[2..end].copy_from_slice(content);
-    end
+    2 + byte_copy::copy(content, &mut out[2..])
 }
 
 // Writes what is before the data of a packet with addresses: the source, the targets and 80.
@@ -37,8 +35,7 @@ fn put_addresses(group: u8, address: u8, targets: &[u8], out: &mut [u8]) -> usiz
 {
     out[0] = group;
     out[1] = address;
-    let end = 2 + targets.len();
-    out[2..end].copy_from_slice(targets);
+    let end = 2 + byte_copy::copy(targets, &mut out[2..]);
     out[end] = TARGETS_END;
     end + 1
 }
