@@ -802,7 +802,7 @@ def check_script_links(compare, rng):
         for path in ("a/absolute", "a/b/relative", "linked/relative", "repository/replay"):
             run = run_on_file(f"{folder}/{path}", log)
             compare.compare(f"./replay as {path}", log, reference.replay(log), run)
-        write_program(f"{folder}/other/{PROGRAM}", "echo other")
+        write_program(f"{folder}/other/{BUILT}", "echo other")
         stand_in(f"{folder}/other")
         os.symlink("../../other/replay", f"{folder}/a/b/other")
         if run_on_file(f"{folder}/linked/other", b"") != Run(b"other\n", b"", 0):
@@ -831,8 +831,8 @@ def check_script_terminal(compare, rng):
 
 
 def check_script_signals(compare, rng):
-    """Ctrl-C, which goes to all processes, and signals to the script alone end script and program. So
-    does a reader that closes the output."""
+    """Ctrl-C, which goes to all processes, and signals to the script alone end script and program. A
+    reader that closes the output is a write that fails."""
     for send, number in (
         (os.killpg, signal.SIGINT),
         (os.kill, signal.SIGINT),
@@ -849,7 +849,8 @@ def check_script_signals(compare, rng):
         answered(process, command(READ, 0x15))
         process.stdout.close()
         process.stdin.write(command(READ, 0x15) + b"\n")
-        if process.stderr.read() or process.wait() != 128 + signal.SIGPIPE:
+        message = f"replay: standard output cannot be written: {os.strerror(errno.EPIPE)}\n"
+        if process.stderr.read() != message.encode("ascii") or process.wait() != 1:
             raise Problem(f"./replay after its reader has gone: {process.returncode}")
 
 
@@ -864,7 +865,7 @@ def write_program(path, text):
     os.chmod(path, 0o755)
 
 
-PROGRAM = "crates/replay/out/replay"
+BUILT = "crates/replay/out/replay"
 
 
 def stand_in(folder):
@@ -883,7 +884,7 @@ def check_script_messages(compare, rng):
     """A message reaches standard error while the program still runs, also one without a line feed. A
     program that is killed is no success."""
     with tempfile.TemporaryDirectory() as folder:
-        script, program = stand_in(folder), f"{folder}/{PROGRAM}"
+        script, program = stand_in(folder), f"{folder}/{BUILT}"
         write_program(program, "echo 'replay: one' >&2\nread line\nprintf 'replay: \\\\ two' >&2")
         with started(script) as process:
             first = process.stderr.read(4096)
