@@ -1,7 +1,7 @@
 #!/usr/bin/env python3
 """The gate passes on a good repository and fails where it must: on a crate that crates.txt does not list, on an empty or a
-missing list, on a function that is not proved, on a must-fail edit that is or that fits no text, on a bad layout, on a test that
-fails (also one whose name has quotes or a space), that is killed or says nothing, without tests, and without its tools.
+missing list, on a function that is not proved, on a must-fail edit that is, that fits no text or that only takes away a name, on a
+bad layout, on a test that fails (also one whose name has quotes or a space), that is killed or says nothing, without tests, and without its tools.
 
 Each case is a scratch copy of this repository with one fault. To be quick, a copy keeps the lowest crate alone; its tests are one
 that passes, so that this one does not start itself.
@@ -63,6 +63,18 @@ def edit_that_fits_nothing(copy):
     write(os.path.join(copy, "crates", "logic", "must-fail", "nothing.edit"), "file: src/lib.rt\nold: no such text\nnew: another\n")
 
 
+def edit_that_loses_a_name(copy):
+    crate = os.path.join(copy, "crates", "sample")
+    source = "pub fn one(x: u8) -> u8\n    ensures { result ≡ 1 }\n{\n    if x < 2 {\n        return 1;\n    }\n    1\n}\n"
+    write(os.path.join(crate, "src", "lib.rt"), "#![tactic(auto)]\n\nghost use Rattle.std.specs.Prelude.{◌≡◌};\n\n" + source)
+    answer = "pub returns-then-x-lt2 : goal.returns-then-x-lt2\nreturns-then-x-lt2 c = refl\n"
+    head = "use Rattle.std.proofs.Common.{refl}\nuse Rattle.sample.proofs.one.Goals as goal\n\n"
+    write(os.path.join(crate, "proofs", "one", "Answers.antt"), head + answer)
+    write(os.path.join(crate, "must-fail", "name.edit"), "file: src/lib.rt\nold: x < 2\nnew: x < 3\n")
+    write(os.path.join(copy, "crates.txt"), "sample:\n")
+    shutil.rmtree(os.path.join(copy, "crates", "logic"))
+
+
 def bad_layout(copy):
     write(os.path.join(copy, "crates", "logic", "src", "lib.rt"), "const  A:u8=1 ;\n")
 
@@ -117,6 +129,7 @@ CASES = {
     unproved_function: "the proofs failed",
     edit_that_is_proved: "NOT REFUSED",
     edit_that_fits_nothing: "an edit is bad",
+    edit_that_loses_a_name: "an edit only takes away a name",
     bad_layout: "is not in the layout",
     empty_list: "the proofs failed",
     missing_list: "the proofs failed",
