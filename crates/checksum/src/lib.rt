@@ -10,11 +10,10 @@ ghost use Rattle.checksum.specs.Checksum.{sum_from, sum_holds, ends_hold};
 pub fn sum_from(start: usize, bytes: &[u8]) -> u8
     ensures { result ≡ sum_from start bytes.now }
 {
+    let first = start.min(bytes.len());
     let mut sum: u8 = 0;
-    let mut i = start;
-    while i < bytes.len() {
-        sum = std::num::wrapping_add_u8(sum, bytes[i]);
-        i += 1;
+    for byte in &bytes[first..] {
+        sum = sum.wrapping_add(*byte);
     }
     sum
 }

@@ -3,29 +3,30 @@
 #![tactic(auto)]
 
 ghost use Rattle.std.specs.Prelude.{◌≡◌};
-ghost use Rattle.freestar_packet.specs.Read.{decoded_result, read_frame, read_packet};
+ghost use Rattle.refusal.specs.Numbers.{answer};
+ghost use Rattle.freestar_packet.specs.Read.{read_frame, read_packet};
 
-use freestar_packet::{DATA_START, Decoded, END, Message, OVERHEAD, START, SUM_START};
-use refusal::{PACKET_CONTENT, PACKET_ENDS, PACKET_LENGTH, PACKET_SUM, PAN_ID_OVER};
+use freestar_packet::{DATA_START, END, Message, OVERHEAD, START, SUM_START};
+use refusal::Refusal;
 
 // Reads a block as exactly one packet, of whatever type.
 #[tactic(auto, unfolding(freestar_packet::specs::Read::read_frame))]
-pub fn read_frame(block: &[u8]) -> Decoded
-    ensures { decoded_result result ≡ read_frame block.now }
+pub fn read_frame(block: &[u8]) -> Result<Message, Refusal>
+    ensures { answer result ≡ read_frame block.now }
 {
     if !checksum::ends_hold(START, END, block) {
-        return Decoded::Refused(PACKET_ENDS);
+        return Err(Refusal::PacketEnds);
     }
     if block.len() < OVERHEAD as usize {
-        return Decoded::Refused(PACKET_LENGTH);
+        return Err(Refusal::PacketLength);
     }
     if block[1] as usize != block.len() {
-        return Decoded::Refused(PACKET_LENGTH);
+        return Err(Refusal::PacketLength);
     }
     if !checksum::sum_holds(SUM_START, block) {
-        return Decoded::Refused(PACKET_SUM);
+        return Err(Refusal::PacketSum);
     }
-    Decoded::Accepted(Message {
+    Ok(Message {
         kind: block[2],
         data_length: block[1] - OVERHEAD,
     })
@@ -33,22 +34,17 @@ pub fn read_frame(block: &[u8]) -> Decoded
 
 // Reads a block as exactly one message of the types that are served.
 #[tactic(auto, using(freestar_packet::proofs::Frame::data_within, freestar_packet::proofs::Frame::data_handed), unfolding(freestar_packet::specs::Read::read_packet))]
-pub fn decode(block: &[u8]) -> Decoded
-    ensures { decoded_result result ≡ read_packet block.now }
+pub fn decode(block: &[u8]) -> Result<Message, Refusal>
+    ensures { answer result ≡ read_packet block.now }
 {
-    let frame = read_frame(block);
-    match frame {
-        Decoded::Refused(number) => Decoded::Refused(number),
-        Decoded::Accepted(message) => {
-            let end = DATA_START + message.data_length as usize;
-            let content = &block[DATA_START..end];
-            if !freestar_packet::fits(message.kind, content.len()) {
-                return Decoded::Refused(PACKET_CONTENT);
-            }
-            if !freestar_packet::pan_id_holds(message.kind, content) {
-                return Decoded::Refused(PAN_ID_OVER);
-            }
-            Decoded::Accepted(message)
-        }
+    let message = read_frame(block)?;
+    let end = DATA_START + message.data_length as usize;
+    let content = &block[DATA_START..end];
+    if !freestar_packet::fits(message.kind, content.len()) {
+        return Err(Refusal::PacketContent);
     }
+    if !freestar_packet::pan_id_holds(message.kind, content) {
+        return Err(Refusal::PanIdOver);
+    }
+    Ok(message)
 }

@@ -5,13 +5,13 @@
 
 ghost use Rattle.std.specs.Prelude.{◌≡◌, ◌+◌, ◌≤◌, length};
 ghost use Rattle.logic.specs.Written.{Writes};
-ghost use Rattle.refusal.specs.Refusal.{outcome_of, buffer_after};
+ghost use Rattle.refusal.specs.Numbers.{WritesIfAccepted};
 ghost use Rattle.freestar_packet.specs.Layout.{overhead, packet_bytes};
 ghost use Rattle.freestar_packet.specs.Encode.{encode};
 ghost use Rattle.freestar_packet.specs.Laws.{data_max};
 
 use freestar_packet::{DATA_START, END, OVERHEAD, START, SUM_START};
-use refusal::{FRAME_BUFFER_SHORT, NONE, Outcome, PACKET_CONTENT, PAN_ID_OVER};
+use refusal::Refusal;
 
 // Writes the packet of a type and data, and returns its length.
 fn put_packet(kind: u8, content: &[u8], packet: &mut [u8]) -> usize
@@ -30,22 +30,17 @@ fn put_packet(kind: u8, content: &[u8], packet: &mut [u8]) -> usize
 
 // Writes a message of a type that is served.
 #[tactic(auto, using(freestar_packet::proofs::Types::fits_small, freestar_packet::proofs::Frame::packet_length_lem), unfolding(freestar_packet::specs::Encode::encode))]
-pub fn encode(kind: u8, content: &[u8], packet: &mut [u8]) -> Outcome
-    ensures { (result ≡ outcome_of (encode kind content.now (length packet.old)))
-        × (packet.new ≡ buffer_after (encode kind content.now (length packet.old)) packet.old) }
+pub fn encode(kind: u8, content: &[u8], packet: &mut [u8]) -> Result<usize, Refusal>
+    ensures { WritesIfAccepted (encode kind content.now (length packet.old)) packet.old packet.new result }
 {
     if !freestar_packet::fits(kind, content.len()) {
-        return refusal::refused(PACKET_CONTENT);
+        return Err(Refusal::PacketContent);
     }
     if !freestar_packet::pan_id_holds(kind, content) {
-        return refusal::refused(PAN_ID_OVER);
+        return Err(Refusal::PanIdOver);
     }
     if packet.len() < OVERHEAD as usize + content.len() {
-        return refusal::refused(FRAME_BUFFER_SHORT);
+        return Err(Refusal::FrameBufferShort);
     }
-    let length = put_packet(kind, content, packet);
-    Outcome {
-        refusal: NONE,
-        length,
-    }
+    Ok(put_packet(kind, content, packet))
 }

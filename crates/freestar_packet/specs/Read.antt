@@ -4,14 +4,7 @@ use Rattle.logic.specs.Lists.{part}
 use Rattle.refusal.specs.Refusal.{Result, accepted, refused, and_then, packet_ends, packet_length, packet_sum, packet_content, pan_id_over}
 use Rattle.checksum.specs.Checksum.{sum_holds, ends_hold}
 use Rattle.freestar_packet.specs.declared.Message.{Message}
-use Rattle.freestar_packet.specs.declared.Decoded.{Decoded}
-use Rattle.freestar_packet.specs.declared.Decoded.TheVariants.{Accepted, Refused}
 use Rattle.freestar_packet.specs.Layout.{start, end, types, fits_in, overhead, start_of_data, sum_start, pan_id_holds}
-
--- each case of what was read: the message, or the number of the refusal
-abbrev pub decoded_result : Decoded → Result Message
-decoded_result (Accepted m) = accepted m
-decoded_result (Refused n) = refused n
 
 -- 25: the length byte against the block, "also for a total under 5"
 abbrev pub length_holds : List ℕ → Bool

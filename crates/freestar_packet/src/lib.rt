@@ -67,15 +67,6 @@ pub struct Message {
     pub data_length: u8,
 }
 
-// What was read from a block.
-#[derive(Clone, Copy)]
-pub enum Decoded {
-    // One whole message.
-    Accepted(Message),
-    // The number of the refusal.
-    Refused(u8),
-}
-
 // Whether messages of this type are served and have so many bytes of data.
 #[tactic(auto, unfolding(crate::specs::Layout::fits_in))]
 pub fn fits(kind: u8, size: usize) -> bool
