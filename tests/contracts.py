@@ -43,8 +43,9 @@ def crates():
 # ---- Items of a source -----------------------------------------------------------------------
 
 # A function, a constant, a type or a definition. `text` goes from its first line to the next item. For a function, `head` is what is before
-# the body; for any other item it is empty. `start` and `line` say where it begins.
-Item = collections.namedtuple("Item", "kind name public head text start line")
+# the body, and `contract` is that with what a trait's ghost member promises of it; for any other item both are empty. `start` and `line` say
+# where it begins.
+Item = collections.namedtuple("Item", "kind name public head contract text start line")
 
 # What is before the word of an item: a bare `pub`, or `pub(crate)`, which is not public.
 VISIBLE = r"\s*(pub )?(?:pub\([^)]*\) )?"
@@ -80,21 +81,41 @@ def begins(line, owner):
     return None
 
 
+# What opens the methods of a type, or those by which it has a trait: the trait's name, and the type.
+METHODS = re.compile(r"impl(?:<[^{]*?>)? (?:(\w+)(?:<.*>)? for )?([^{]+?) \{")
+# What the trait From promises of a conversion, as a ghost member: two names, and a fact about the first, what is given, and the second, the result.
+GIVES = re.compile(r"ghost (?:try_)?from_gives = \{ λ (\w+) (\w+)\. (.*) \};")
+
+
+def promised(gives, head):
+    """What a ghost member promises of the function with a head, as a clause in the words of its parameter."""
+    (given, _), *_ = parameters(head)
+    names = {gives.group(1): given, gives.group(2): "result"}
+    fact = re.sub(r"(?<![\w.])\w+", lambda word: names.get(word.group(), word.group()), gives.group(3))
+    return f"\n    ensures {{ {fact} }}\n"
+
+
 def items_in_rattle(source):
-    """The items of a Rattle source, in order."""
+    """The items of a Rattle source, in order. Another crate can call a function by which a type has a trait, so it is public."""
     lines = without_comments(source).split("\n")
-    found, owner, start = [], "", 0
+    found, owner, trait, gives, start = [], "", None, None, 0
     for number, line in enumerate(lines):
-        opens = re.match(r"impl (\w+)", line)
-        owner = opens.group(1) + "::" if opens else "" if line.rstrip() == "}" else owner
+        opens = METHODS.match(line)
+        if opens:
+            owner, trait, gives = opens.group(2) + "::", opens.group(1), None
+        elif line.rstrip() == "}":
+            owner, trait, gives = "", None, None
+        gives = GIVES.match(line.strip()) or gives
         item = begins(line, owner)
         if item:
-            found.append((*item, start, number))
+            kind, name, public = item
+            found.append((kind, name, public or bool(trait) and kind == "function", gives if trait else None, start, number))
         start += len(line) + 1
     ends = [begin for *_, begin in found[1:]] + [len(lines)]
-    for (kind, name, public, start, begin), end in zip(found, ends):
+    for (kind, name, public, gives, start, begin), end in zip(found, ends):
         head = head_of(lines[begin:end]) if kind == "function" else ""
-        yield Item(kind, name, public, head, "\n".join(lines[begin:end]), start, begin + 1)
+        contract = head + promised(gives, head) if head and gives else head
+        yield Item(kind, name, public, head, contract, "\n".join(lines[begin:end]), start, begin + 1)
 
 
 def items_in_antt(source):
@@ -108,7 +129,7 @@ def items_in_antt(source):
         start += len(line) + 1
     ends = [begin for *_, begin in found[1:]] + [len(lines)]
     for (name, public, start, begin), end in zip(found, ends):
-        yield Item("definition", name, public, "", "\n".join(lines[begin:end]), start, begin + 1)
+        yield Item("definition", name, public, "", "", "\n".join(lines[begin:end]), start, begin + 1)
 
 
 def items_of(path):
@@ -211,8 +232,11 @@ def stated(head):
 def parameters(head):
     """The parameters of a function as pairs of a name and a type; `self` has no type."""
     inside = enclosed(head, head.index("("), "(", ")")
-    pairs = []
-    for part in re.split(r",(?![^\[(]*[\])])", inside):
+    pairs, depth, parts = [], 0, [""]
+    for letter in inside:
+        depth += (letter in "([<") - (letter in ")]>")
+        parts = parts + [""] if letter == "," and depth == 0 else [*parts[:-1], parts[-1] + letter]
+    for part in parts:
         name, _, kind = part.partition(":")
         if name.strip():
             pairs.append((name.replace("mut ", "").strip(), kind.strip()))
@@ -338,7 +362,7 @@ def table(*rows):
 def function_rows(function):
     """A row for each conjunct of a contract; the first has the function's name."""
     given = parameters(function.item.head)
-    for number, fact in enumerate(stated(function.item.head)):
+    for number, fact in enumerate(stated(function.item.contract)):
         name = "" if number else f"`{function.item.name}`"
         # A fact without a definition says that the result is a parameter as it was given.
         yield name, ", ".join(subjects(fact, given)), quoted(cited(fact, function.known)) or "none: it is a parameter as it was given"
@@ -361,7 +385,7 @@ def homes():
     found = {}
     for crate in crates():
         for function in functions_of(crate):
-            for name in cited(" ".join(clauses(function.item.head, "ensures")), function.known):
+            for name in cited(" ".join(clauses(function.item.contract, "ensures")), function.known):
                 found.setdefault(function.known[name], set()).add(name)
     found.pop(None, None)
     order = crates()

@@ -7,7 +7,7 @@ name in LIBRARIES.
 import collections
 import itertools
 
-# The number, the constant's name, and when it is given, in the words of the constant's comment.
+# The number, the name that the headers give it (the source's enum has it as a case), and when it is given, in the words of the case's comment.
 Refusal = collections.namedtuple("Refusal", "number name words")
 REFUSALS = (
     Refusal(1, "RESPONSE_BUFFER_SHORT", "the response buffer has fewer than 22 bytes"),

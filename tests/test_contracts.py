@@ -63,9 +63,9 @@ def breaches(source):
         yield source.count("\n", 0, found.start()) + 1, f"{found.group(1)} is handed out by pub use"
     for item in items_in_rattle(source):
         if item.kind == "function" and item.public:
-            if list(clauses(item.head, "requires")):
+            if list(clauses(item.contract, "requires")):
                 yield item.line, f"{item.name} has a requires"
-            if not list(clauses(item.head, "ensures")):
+            if not list(clauses(item.contract, "ensures")):
                 yield item.line, f"{item.name} has no ensures"
 
 
@@ -100,12 +100,28 @@ impl Slot {
     }
 }
 
+impl From<Result<u8, Slot>> for Row {
+    ghost from_gives = { λ told row. row ≡ row_of told };
+
+    fn from(x: Result<u8, Slot>) -> Row {
+        inner(x)
+    }
+}
+
+impl From<u8> for Row {
+    fn from(x: u8) -> Row {
+        inner(x)
+    }
+}
+
 pub use hidden::inner;
 """
 
 
 def sample_functions():
-    wanted = ["hidden::inner is handed out by pub use", "asks has a requires", "says_nothing has no ensures", "Slot::exported has no ensures"]
+    told = next(item for item in items_in_rattle(FUNCTIONS) if item.name == "Row::from")
+    expect((stated(told.contract), parameters(told.head)), (["result ≡ row_of x"], [("x", "Result<u8, Slot>")]))
+    wanted = ["hidden::inner is handed out by pub use", "asks has a requires", "says_nothing has no ensures", "Slot::exported has no ensures", "Row::from has no ensures"]
     expect([fault for _, fault in breaches(FUNCTIONS)], wanted)
 
 
@@ -197,16 +213,21 @@ def passed_over(head, structs):
 
 def weaknesses(function, structs):
     """What is wrong with the contract of a public function."""
-    for fact in stated(function.item.head):
+    for fact in stated(function.item.contract):
         fault = uncited(fact, parameters(function.item.head), function.known)
         if fault:
             yield f"the conjunct `{fact}` {fault}"
-    yield from passed_over(function.item.head, structs)
+    yield from passed_over(function.item.contract, structs)
+
+
+# A ghost member of a trait or of a struct: what it says may cite a definition too.
+GHOSTS = re.compile(r"^\s*ghost \w+(?: =|:) \{(.*)\}[;,]$", re.M)
 
 
 def unused(source):
     """The definitions that a source brings in and that none of its contracts cites."""
-    said = words_of(" ".join(clauses(without_comments(source), "requires", "ensures")))
+    facts = [fact for item in items_in_rattle(source) for fact in clauses(item.contract, "requires", "ensures")]
+    said = words_of(" ".join([*facts, *(each.group(1) for each in GHOSTS.finditer(without_comments(source)))]))
     return [name for name in imports(source) if name not in said]
 
 
@@ -271,7 +292,7 @@ def check_conjuncts():
     structs = {name: fields for path in sources for name, fields in structs_in(read(path)).items()}
     for function in (function for crate in crates() for function in functions_of(crate)):
         faults = [*weaknesses(function, structs)]
-        faults += [f"cites {name}, a definition under another name" for name in renamed(read(function.path)) if name in words_of(function.item.head)]
+        faults += [f"cites {name}, a definition under another name" for name in renamed(read(function.path)) if name in words_of(function.item.contract)]
         yield from (f"{function.path}:{function.item.line}: {function.item.name}: {fault}" for fault in faults)
     yield from (f"{path}: {name} is brought in, and no contract cites it" for path in sources for name in unused(read(path)))
 
@@ -328,14 +349,14 @@ def mentioned(item, names, libraries):
     """The keys of the items of a crate that an item calls, uses or cites; `names` are all keys, `libraries` the crates that it depends on."""
     if item.kind == "definition":
         return {(True, name) for name in re.findall(r"[^\s(){};,.λ]+", item.text)} & names
-    found = {(True, name) for name in words_of(" ".join(clauses(item.head, "requires", "ensures")))}
+    found = {(True, name) for name in words_of(" ".join(clauses(item.contract, "requires", "ensures")))}
     body = item.text[len(item.head) :]
     # A name in small letters is a function's only where it is called.
     for path, name in re.findall(r"(?<![\w.])((?:\w+::)*)([A-Z]\w*|\w+(?=\())", body):
         owner = path.split("::")[-2:-1]
         if path.split("::")[0] not in libraries:
             found |= {(False, name), (False, "::".join([*owner, name]))}
-    methods = re.findall(r"\.(\w+)\(", body)
+    methods = ["from" if name == "into" else name for name in re.findall(r"\.(\w+)\(", body)]
     found |= {(kind, name) for kind, name in names if "::" in name and name.split("::")[1] in methods}
     return found & names
 
@@ -437,7 +458,7 @@ CHECKS = (check_functions, check_conjuncts, check_document, check_edits)
 def main(checks, whole):
     faults = [fault for check in checks for fault in check()]
     functions = [function for crate in crates() for function in functions_of(crate)]
-    facts = sum(len(stated(function.item.head)) for function in functions)
+    facts = sum(len(stated(function.item.contract)) for function in functions)
     edits = [edit for crate in crates() for edit in edits_of(crate)]
     more = sum(edit.tried == MORE for edit in edits)
     if faults or not functions or not edits:

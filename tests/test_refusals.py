@@ -1,6 +1,6 @@
 #!/usr/bin/env python3
 """refusals.py, the table of document 01's "Numbers that a refusal carries" and of document 02's numbers, against all that repeats
-it: the constants, the definitions, the C headers, the references in Python, the README and docs/TRACE.md. No other source has a
+it: the enum's cases, the definitions, the C headers, the references in Python, the README and docs/TRACE.md. No other source has a
 refusal as a bare number."""
 
 import re
@@ -11,7 +11,7 @@ sys.dont_write_bytecode = True  # leaves no files beside the tests
 from library import ROOT, Problem, run_test, same_sets
 from refusals import LIBRARIES, NUMBERS, ORDERS, OWN, REFUSALS, entries_of, numbers_of, sequence
 
-CONSTANTS = "crates/refusal/src/lib.rt"
+SOURCE = "crates/refusal/src/lib.rt"
 DEFINITIONS = "crates/refusal/specs/Refusal.antt"
 README = "README.md"
 TRACE = "docs/TRACE.md"
@@ -63,15 +63,21 @@ def check_table():
     return f"{len(REFUSALS)} refusals"
 
 
-def check_constants():
-    return held(CONSTANTS, read(CONSTANTS), r"^pub const (\w+): u8 = (\d+);", "NONE")
+def case(name):
+    """The enum's case of a refusal: `EndsEarly` of `ENDS_EARLY`."""
+    return "".join(word.capitalize() for word in name.split("_"))
+
+
+def check_cases():
+    """The enum has a case for each refusal, and the one constant is the number of none."""
+    return held(SOURCE, read(SOURCE), r"^(?:    |pub const )(\w+)(?:: u8)? = (\d+)[,;]", "NONE", case)
 
 
 def check_words():
-    """The comment above each constant says when the refusal is given, in the table's words."""
-    found = re.findall(r"^// (.*)\.\npub const (\w+): u8 = [1-9]", read(CONSTANTS), re.M)
-    wanted = {(refusal.name, refusal.words[0].upper() + refusal.words[1:]) for refusal in REFUSALS}
-    same_sets("words", wanted, "refusals.py", {(name, words) for words, name in found}, CONSTANTS)
+    """The comment above each case says when the refusal is given, in the table's words."""
+    found = re.findall(r"^    // (.*)\.\n    (\w+) = [1-9]", read(SOURCE), re.M)
+    wanted = {(case(refusal.name), refusal.words[0].upper() + refusal.words[1:]) for refusal in REFUSALS}
+    same_sets("words", wanted, "refusals.py", {(name, words) for words, name in found}, SOURCE)
     return "their words"
 
 
@@ -202,11 +208,11 @@ def sources():
 
 
 def check_given():
-    """Each number is given somewhere: a source names the constant, and a definition the number."""
+    """Each number is given somewhere: a source names the enum's case, and a definition the number."""
     words = {".rt": set(), ".antt": set()}
     for _, extension, text in sources():
         words[extension] |= set(re.findall(r"\w+", text))
-    unused = [name for name in NUMBERS if name not in words[".rt"] or name.lower() not in words[".antt"]]
+    unused = [name for name in NUMBERS if case(name) not in words[".rt"] or name.lower() not in words[".antt"]]
     if unused:
         raise Problem(f"no source, or no definition, gives {unused}")
     return "each given by a source and a definition"
@@ -237,7 +243,7 @@ def check_bare():
 
 CHECKS = (
     check_table,
-    check_constants,
+    check_cases,
     check_words,
     check_definitions,
     check_header,
