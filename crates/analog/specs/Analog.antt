@@ -1,7 +1,10 @@
 -- Document 01, "Readout and percent".
-use Rattle.std.specs.Prelude.{ℕ, ◌+◌, ◌*◌, ◌/◌, min, Bool, cond, ◌||◌, List, [], ◌∷◌, eqb, ltb, ℤ, pos, negsuc, ◌+ℤ◌, length}
+use Rattle.std.specs.Prelude.{ℕ, ◌+◌, ◌*◌, ◌/◌, min, Bool, cond, ◌||◌, List, [], ◌∷◌, eqb, ltb, ℤ, pos, negsuc, ◌+ℤ◌, length, Ok, Err}
+use Rattle.std.specs.Prelude as std
 use Rattle.logic.specs.Lists.{any}
+use Rattle.refusal.specs.declared.Refusal.{Refusal}
 use Rattle.refusal.specs.Refusal.{none, reading_count, reading_over}
+use Rattle.refusal.specs.Numbers.{number_of}
 use Rattle.analog.specs.declared.ReadoutResult.{ReadoutResult}
 
 -- the most readings that are averaged
@@ -26,6 +29,11 @@ full_scale = 65536
 
 abbrev pub result : ℕ → ℕ → ReadoutResult
 result refusal readout = record { refusal = refusal; readout = readout }
+
+-- what an answer of the source is told as
+abbrev pub readout_from : std.Result ℕ Refusal → ReadoutResult
+readout_from (Ok readout) = result none readout
+readout_from (Err e) = result (number_of e) 0
 
 -- some reading is more than the converter can give
 abbrev pub any_over : List ℕ → Bool

@@ -4,9 +4,9 @@
 #![tactic(auto)]
 
 ghost use Rattle.std.specs.Prelude.{◌≡◌, ◌≤◌, pos, ◌+ℤ◌, length};
-ghost use Rattle.analog.specs.Analog.{readings_max, readout_max, any_over, sum_of, clamped, readout_of, percent_of};
+ghost use Rattle.analog.specs.Analog.{readings_max, readout_max, any_over, sum_of, clamped, readout_from, readout_of, percent_of};
 
-use refusal::{NONE, READING_COUNT, READING_OVER};
+use refusal::{NONE, Refusal};
 
 // The most readings that are averaged.
 const READINGS_MAX: usize = 16;
@@ -19,7 +19,7 @@ const READOUT_MAX: u16 = 65535;
 // The readout that would be the whole reference: one more than the largest.
 const FULL_SCALE: u32 = 65536;
 
-// The number of the refusal or 0, and the readout, 0 on a refusal.
+// What is told to C: the number of the refusal or 0, and the readout, 0 on a refusal.
 #[repr(C)]
 #[derive(Clone, Copy)]
 pub struct ReadoutResult {
@@ -27,32 +27,36 @@ pub struct ReadoutResult {
     pub readout: u16,
 }
 
+impl From<Result<u16, Refusal>> for ReadoutResult {
+    ghost from_gives = { λ read told. told ≡ readout_from read };
+
+    fn from(read: Result<u16, Refusal>) -> ReadoutResult {
+        match read {
+            Ok(readout) => ReadoutResult {
+                refusal: NONE,
+                readout,
+            },
+            Err(refusal) => ReadoutResult {
+                refusal: refusal.number(),
+                readout: 0,
+            },
+        }
+    }
+}
+
 // Whether a reading is over the largest that the converter has.
 fn any_over(readings: &[u16]) -> bool
     ensures { result ≡ any_over readings.now }
 {
-    let mut i = 0;
-    while i < readings.len() {
-        if readings[i] > READING_MAX {
-            return true;
-        }
-        i += 1;
-    }
-    false
+    readings.iter().any(|reading| *reading > READING_MAX)
 }
 
-#[tactic(auto, unfolding(crate::specs::Analog::sum_of))]
+#[tactic(auto, using(crate::proofs::Readings::sum_of_sum))]
 fn sum(readings: &[u16]) -> usize
     requires { length readings.now ≤ readings_max }
     ensures { result ≡ sum_of readings.now }
 {
-    let mut sum: usize = 0;
-    let mut i = 0;
-    while i < readings.len() {
-        sum += readings[i] as usize;
-        i += 1;
-    }
-    sum
+    readings.iter().map(|reading| *reading as usize).sum()
 }
 
 // base plus offset, clamped to 16 bits.
@@ -60,37 +64,21 @@ fn with_offset(base: usize, offset: i16) -> u16
     requires { base ≤ readout_max }
     ensures { result ≡ clamped (pos base +ℤ offset) }
 {
-    let z = base as i32 + offset as i32;
-    if z < 0 {
-        return 0;
-    }
-    if z > READOUT_MAX as i32 {
-        return READOUT_MAX;
-    }
-    z as u16
+    (base as i32 + offset as i32).clamp(0, READOUT_MAX as i32) as u16
 }
 
 // The readout of 1 to 16 readings: 16 times their mean, rounded down once, plus the offset, clamped to 16 bits.
-pub fn readout(readings: &[u16], offset: i16) -> ReadoutResult
-    ensures { result ≡ readout_of readings.now offset }
+pub fn readout(readings: &[u16], offset: i16) -> Result<u16, Refusal>
+    ensures { readout_from result ≡ readout_of readings.now offset }
 {
-    if (readings.len() == 0) | (readings.len() > READINGS_MAX) {
-        return ReadoutResult {
-            refusal: READING_COUNT,
-            readout: 0,
-        };
+    if readings.is_empty() || readings.len() > READINGS_MAX {
+        return Err(Refusal::ReadingCount);
     }
     if any_over(readings) {
-        return ReadoutResult {
-            refusal: READING_OVER,
-            readout: 0,
-        };
+        return Err(Refusal::ReadingOver);
     }
     let base = SCALE * sum(readings) / readings.len();
-    ReadoutResult {
-        refusal: NONE,
-        readout: with_offset(base, offset),
-    }
+    Ok(with_offset(base, offset))
 }
 
 // A readout as whole percent of the reference, to the nearest, halves up. It refuses nothing.
