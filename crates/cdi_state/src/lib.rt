@@ -2,10 +2,9 @@
 // what is live. The settings are in the first two.
 #![tactic(auto)]
 
-ghost use Rattle.std.specs.Prelude.{◌+◌, ◌*◌, ◌≡◌, length};
-ghost use Rattle.logic.specs.Signed.{signed};
-ghost use Rattle.cdi_item.specs.Items.{input_count, slot_count};
-ghost use Rattle.cdi_state.specs.State.{input_bytes, input_in, slot_bytes, slot_in, input_offset, factory_state, ArrayLengths, OffsetLengths, StoredLengths, FieldLengths};
+ghost use Rattle.std.specs.Prelude.{◌≡◌, ℕ, ◌<◌, get_or, length};
+ghost use Rattle.cdi_item.specs.Items.{input_count};
+ghost use Rattle.cdi_state.specs.State.{input_bytes, input_in, slot_bytes, slot_in, input_offset, no_input, factory_state, ArrayLengths, FieldLengths};
 
 use cdi_item::{INPUT_COUNT, NAME_LENGTH, ROW_LENGTH, SLOT_COUNT};
 
@@ -112,22 +111,27 @@ impl Slot {
         address: [0; ADDRESS_LENGTH],
         mask: 0,
     };
+}
 
-    // The slot as item 18 has it.
-    pub fn bytes(self) -> [u8; ROW_LENGTH]
-        ensures { result ≡ slot_bytes self }
-    {
-        let address = self.address;
-        [address[0], address[1], address[2], address[3], self.mask]
+// The slot as item 18 has it, ...
+impl From<Slot> for [u8; ROW_LENGTH] {
+    ghost from_gives = { λ slot row. row ≡ slot_bytes slot };
+
+    fn from(slot: Slot) -> [u8; ROW_LENGTH] {
+        let [first, second, third, fourth] = slot.address;
+        [first, second, third, fourth, slot.mask]
     }
+}
 
-    // The slot that has these bytes.
-    pub fn from_bytes(row: [u8; ROW_LENGTH]) -> Slot
-        ensures { result ≡ slot_in row }
-    {
+// ... and the slot that has these bytes.
+impl From<[u8; ROW_LENGTH]> for Slot {
+    ghost from_gives = { λ row slot. slot ≡ slot_in row };
+
+    fn from(row: [u8; ROW_LENGTH]) -> Slot {
+        let [first, second, third, fourth, mask] = row;
         Slot {
-            address: [row[0], row[1], row[2], row[3]],
-            mask: row[4],
+            address: [first, second, third, fourth],
+            mask,
         }
     }
 }
@@ -140,38 +144,36 @@ impl AnalogInput {
         offset: [0; OFFSET_LENGTH],
     };
 
-    // The input as item 16 has it.
-    pub fn bytes(self) -> [u8; ROW_LENGTH]
-        ensures { result ≡ input_bytes self }
-    {
-        let offset = self.offset;
-        [
-            self.channel,
-            self.readings,
-            self.reference,
-            offset[0],
-            offset[1],
-        ]
-    }
-
-    // The input that has these bytes.
-    pub fn from_bytes(row: [u8; ROW_LENGTH]) -> AnalogInput
-        ensures { result ≡ input_in row }
-    {
-        AnalogInput {
-            channel: row[0],
-            readings: row[1],
-            reference: row[2],
-            offset: [row[3], row[4]],
-        }
-    }
-
     // The offset as the signed number that `analog::readout` takes.
     pub fn signed_offset(self) -> i16
         ensures { result ≡ input_offset self }
     {
-        let offset = self.offset;
-        signed_pair(offset[0], offset[1])
+        i16::from_be_bytes(self.offset)
+    }
+}
+
+// The input as item 16 has it, ...
+impl From<AnalogInput> for [u8; ROW_LENGTH] {
+    ghost from_gives = { λ input row. row ≡ input_bytes input };
+
+    fn from(input: AnalogInput) -> [u8; ROW_LENGTH] {
+        let [high, low] = input.offset;
+        [input.channel, input.readings, input.reference, high, low]
+    }
+}
+
+// ... and the input that has these bytes.
+impl From<[u8; ROW_LENGTH]> for AnalogInput {
+    ghost from_gives = { λ row input. input ≡ input_in row };
+
+    fn from(row: [u8; ROW_LENGTH]) -> AnalogInput {
+        let [channel, readings, reference, high, low] = row;
+        AnalogInput {
+            channel,
+            readings,
+            reference,
+            offset: [high, low],
+        }
     }
 }
 
@@ -188,51 +190,15 @@ impl Settings {
     };
 }
 
-// Two bytes, the high one first, as the number that they stand for in two's complement.
-fn signed_pair(high: u8, low: u8) -> i16
-    ensures { result ≡ signed 65536 (high * 256 + low) }
+// This function does nothing: it is there for its contract. The length of an array inside another array's element is known once the
+// element is read as a row, which has five bytes.
+fn offset_lengths(inputs: &[AnalogInput; INPUT_COUNT])
+    ensures { (i : ℕ) → i < input_count → length (get_or inputs.now i no_input).offset ≡ 2 }
 {
-    let raw = high as u16 * 256 + low as u16;
-    if raw < 0x8000 {
-        return raw as i16;
-    }
-    (raw - 0x8000) as i16 + i16::MIN
-}
-
-// This function and those below it do nothing. Each is there for its contract: a program that has a value knows the lengths of the
-// arrays in it.
-fn slot_lengths(slot: Slot)
-    ensures { length slot.address ≡ 4 }
-{}
-
-fn input_lengths(input: AnalogInput)
-    ensures { length input.offset ≡ 2 }
-{}
-
-fn settings_lengths(settings: Settings)
-    ensures { (length settings.analog_inputs ≡ input_count) × OffsetLengths settings }
-{
-    let first = settings.analog_inputs[0];
-    let second = settings.analog_inputs[1];
-    input_lengths(first);
-    input_lengths(second);
-}
-
-fn stored_lengths(stored: Stored)
-    ensures { (length stored.settings.analog_inputs ≡ input_count) × (length stored.slots ≡ slot_count) × StoredLengths stored }
-{
-    settings_lengths(stored.settings);
-    let mut i: usize = 0;
-    while i < SLOT_COUNT {
-        let slot = stored.slots[i];
-        slot_lengths(slot);
-        i += 1;
+    for input in inputs {
+        let _row = <[u8; ROW_LENGTH]>::from(*input);
     }
 }
-
-fn live_lengths(live: Live)
-    ensures { (length live.lines ≡ 2) × (length live.rssi ≡ 2) }
-{}
 
 impl ModuleState {
     // The state as a module leaves the factory.
@@ -267,13 +233,15 @@ impl ModuleState {
     }
 
     // The state as it is. Its contract is what it is for: the lengths of its arrays, which a theorem about the states of a
-    // program may then ask for.
+    // program may then ask for. The slots are read for the lengths of their addresses, as the inputs are for those of their offsets.
     pub fn array_lengths(self) -> ModuleState
         ensures { (result ≡ self) × (ArrayLengths self × FieldLengths self) }
     {
-        stored_lengths(self.stored);
-        settings_lengths(self.working.settings);
-        live_lengths(self.live);
+        offset_lengths(&self.stored.settings.analog_inputs);
+        offset_lengths(&self.working.settings.analog_inputs);
+        for slot in &self.stored.slots {
+            let _row = <[u8; ROW_LENGTH]>::from(*slot);
+        }
         self
     }
 }
