@@ -1,17 +1,18 @@
 -- The line at the front of a text: how far it goes, and that it is pairs where its last pair stands behind the pairs with a space
 -- after each. Assumes nothing.
-use Prim.Native.Nat.{ℕ, zero, suc, ◌+◌, ◌-◌, ◌<◌, ◌≤◌}
+use Prim.Native.Nat.{ℕ, zero, suc, ◌+◌, ◌<◌, ◌≤◌}
 use mathlib.Core.Path.{◌≡◌, refl, sym, ap, ◌∙◌}
 use mathlib.Core.Bool.{Bool, true, false, ◌&&◌, and-true, and-false, false≢true, and-eq-true_iff}
 use mathlib.Core.List.{List, [], ◌∷◌}
 use native.Mathlib.Omega.{arith}
-use native.Mathlib.Nat.{zero-add, add-zero}
-use borrow.Author.Tests.{eqb-true, eq-eqb, ne_eqb, le-leb, lt-leb}
+use native.Mathlib.Nat.{zero-add}
+use borrow.Author.Tests.{eqb-true, eq-eqb, ne_eqb, lt-leb}
 use lib.Dec.{eqb}
 use lib.ListN.{length, take, drop, get_or, length-drop}
-use lib.Seq.{get_or-drop, drop-drop, length-take-le}
+use lib.Seq.{length-take-le}
 use Rattle.logic.proofs.Choice.{by_cases}
-use Rattle.hex_text.specs.Scan.{is_block, spaced, is_line_end, last_pair}
+use Rattle.logic.proofs.Written.{part_from, part-rest, part_room}
+use Rattle.hex_text.specs.Scan.{is_block, spaced, is_line_end, last_pair, first_line}
 use Rattle.hex_text.specs.Hex.{block, not_hex, is_digit, is_pair, space, line_feed, index_of, pairs, hex_line, line_from, line_end}
 use Rattle.hex_text.proofs.Digits.{pair_digits, digit_place}
 use Rattle.hex_text.proofs.Spaced.{spaced-three, spaced-none, too_few_characters, spaced-within}
@@ -59,7 +60,7 @@ unfolding index_of
 line-ends [] e = refl
 line-ends (c ∷ l) e = index-end c l e
 
-index-within : (l : List ℕ) → index_of line_feed l ≤ length l
+pub index-within : (l : List ℕ) → index_of line_feed l ≤ length l
 unfolding index_of
 index-within [] = omega arith
 index-within (c ∷ l) =
@@ -134,32 +135,24 @@ line-pairs (a ∷ b ∷ c ∷ l) =
     (λ t. rw (index-three a b c l t, spaced-three a b c l t) (block_more a b c (take (index_of line_feed l) l) t ∙ line-pairs l))
     (λ f. rw (spaced-none a b c l f) (three-left a b c l f))
 
-last-short : (l : List ℕ) → length l < 2 → last_pair l ≡ false
+-- whether the last pair of a line stands at the front of a text
+pub last-short : (l : List ℕ) → length l < 2 → last_pair l ≡ false
 unfolding last_pair
 last-short [] h = refl
 last-short (a ∷ []) h = refl
 last-short (a ∷ b ∷ l) h = absurd (omega arith)
 
-last-here : (l : List ℕ) → 2 ≤ length l → last_pair l ≡ is_pair (get_or l 0 0) (get_or l 1 0) && is_line_end (drop 2 l)
+pub no_last : (l : List ℕ) → is_pair (get_or l 0 0) (get_or l 1 0) ≡ false → last_pair l ≡ false
 unfolding last_pair
-last-here [] h = absurd (omega arith)
-last-here (a ∷ []) h = absurd (omega arith)
-last-here (a ∷ b ∷ l) h = refl
+no_last [] p = refl
+no_last (a ∷ []) p = refl
+no_last (a ∷ b ∷ l) p = simp p
 
--- whether the last pair of a line stands at a place of a text
-module _ (text : List ℕ) (i : ℕ) where
-  pub too_short : length text - i < 2 → last_pair (drop i text) ≡ false
-  too_short h = last-short (drop i text) (rw length-drop h)
-
-  module _ (h : 2 ≤ length text - i) where
-    pair_and_end : last_pair (drop i text) ≡ is_pair (get_or text i 0) (get_or text (i + 1) 0) && is_line_end (drop (i + 2) text)
-    pair_and_end = last-here (drop i text) (rw length-drop h) ∙ simp (get_or-drop, drop-drop, add-zero)
-
-    pub line_goes_on : is_line_end (drop (i + 2) text) ≡ false → last_pair (drop i text) ≡ false
-    line_goes_on e = pair_and_end ∙ rw e (and-false (is_pair (get_or text i 0) (get_or text (i + 1) 0)))
-
-    pub line-stops : is_line_end (drop (i + 2) text) ≡ true → last_pair (drop i text) ≡ is_pair (get_or text i 0) (get_or text (i + 1) 0)
-    line-stops e = pair_and_end ∙ rw e (and-true (is_pair (get_or text i 0) (get_or text (i + 1) 0)))
+pub last-here : (l : List ℕ) → 2 ≤ length l → is_pair (get_or l 0 0) (get_or l 1 0) ≡ true → last_pair l ≡ is_line_end (drop 2 l)
+unfolding last_pair
+last-here [] h p = absurd (omega arith)
+last-here (a ∷ []) h p = absurd (omega arith)
+last-here (a ∷ b ∷ l) h p = simp p
 
 nothing_taken : (n : ℕ) (l : List ℕ) → length l ≡ 0 → length (take n l) ≡ 0
 nothing_taken zero l e = refl
@@ -172,60 +165,38 @@ past_end text from h =
     let none : length (line_from from text) ≡ 0 = nothing_taken (index_of line_feed (drop from text)) (drop from text) (omega (arith, length-drop from text)) in
     (simp (lt-leb from (length text) h), blank (line_from from text) (omega arith) none)
 
--- a line starts within a text, and pairs with a space after each go to the place `last`
-pub record Skipped (text : List ℕ) (from last : ℕ) : Type 0 where
-  pub within : from ≤ length text
-  pub place : last ≡ from + spaced (drop from text)
-
--- no last pair stands there, and a line feed, or the end, is found from there on
-pub record Found (text : List ℕ) (last end : ℕ) : Type 0 where
-  pub other : last_pair (drop last text) ≡ false
-  pub index : end ≡ last + index_of line_feed (drop last text)
-
-module _ {text : List ℕ} {from last : ℕ} (skipped : Skipped text from last) where
+-- pairs with a space after each go to the place `last` of a text, and `part_from last` is what stands behind them
+module _ (text : List ℕ) (last : ℕ) (place : last ≡ spaced text) where
   pub last_within : last ≤ length text
-  last_within = omega (arith, spaced-within (drop from text), length-drop from text)
+  last_within = omega (arith, spaced-within text)
 
-  behind : drop (spaced (drop from text)) (drop from text) ≡ drop last text
-  behind = drop-drop (spaced (drop from text)) from text ∙ ap (λ (k : ℕ). drop k text) (sym skipped.place)
+  behind : {A : Type 0} (f : List ℕ → A) → f (part_from last text) ≡ f (drop (spaced text) text)
+  behind f = ap f (part-rest last text ∙ ap (λ (k : ℕ). drop k text) place)
 
-  width : from + index_of line_feed (drop from text) ≡ last + index_of line_feed (drop last text)
-  width = omega (arith, rest_of-line (drop from text), ap (index_of line_feed) behind)
+  pub found-end : (found : ℕ) → found ≡ index_of line_feed (part_from last text) → last + found ≡ index_of line_feed text
+  found-end found is = omega (arith, rest_of-line text, behind (index_of line_feed))
 
-  end-here : line_end from text ≡ last + index_of line_feed (drop last text)
-  end-here = simp (le-leb from (length text) skipped.within) width
-
-  test_here : is_block (pairs (line_from from text)) ≡ last_pair (drop last text)
-  test_here = line-pairs (drop from text) ∙ ap last_pair behind
+  test_here : is_block (pairs (first_line text)) ≡ last_pair (part_from last text)
+  test_here = line-pairs text ∙ sym (behind last_pair)
 
   -- the last pair stands there: so the line is pairs, and ends behind it
-  module _ (ends : last_pair (drop last text) ≡ true) where
+  module _ (ends : true ≡ last_pair (part_from last text)) where
     pub pair-within : last + 2 ≤ length text
-    pair-within = omega (arith, last_within, (last-ends (drop last text) ends).1, length-drop last text)
+    pair-within = omega (arith, last_within, (last-ends (part_from last text) (sym ends)).1, part_room last text)
 
-    pub pair_end : last + 2 ≡ line_end from text
-    pair_end = sym (end-here ∙ ap (λ (k : ℕ). last + k) (last-ends (drop last text) ends).0)
+    pub pair_end : last + 2 ≡ index_of line_feed text
+    pair_end = found-end 2 (sym (last-ends (part_from last text) (sym ends)).0)
 
-    pub pair_line : take (last + 2 - from) (drop from text) ≡ line_from from text
-    pair_line =
-        let chars : last + 2 - from ≡ index_of line_feed (drop from text) = omega (arith, width, (last-ends (drop last text) ends).0) in
-        ap (λ (k : ℕ). take k (drop from text)) chars
-
-    pub pair-pairs : is_block (pairs (line_from from text)) ≡ true
-    pair-pairs = test_here ∙ ends
+    pub pair-pairs : is_block (pairs (first_line text)) ≡ true
+    pair-pairs = test_here ∙ sym ends
 
   -- no last pair stands there: so the line is empty or not hex, and ends where the line feed is found
-  module _ {end : ℕ} (found : Found text last end) where
-    pub found-end : end ≡ line_end from text
-    found-end = found.index ∙ sym end-here
+  module _ (other : false ≡ last_pair (part_from last text)) where
+    chars : length (first_line text) ≡ index_of line_feed text
+    chars = length-take-le (index_of line_feed text) text (index-within text)
 
-    chars : length (line_from from text) ≡ end - from
-    chars =
-        length-take-le (index_of line_feed (drop from text)) (drop from text) (omega (arith, found.index, index-within (drop from text), width, length-drop from text))
-        ∙ omega (arith, found.index, index-within (drop from text), width)
+    pub found-empty : index_of line_feed text ≡ 0 → hex_line (first_line text) ≡ block []
+    found-empty e = blank (first_line text) (omega (arith, chars)) (omega (arith, chars))
 
-    pub found-empty : end ≡ from → hex_line (line_from from text) ≡ block []
-    found-empty e = blank (line_from from text) (omega (arith, chars)) (omega (arith, chars))
-
-    pub found-other : (end ≡ from → ⊥) → hex_line (line_from from text) ≡ not_hex
-    found-other n = not_pairs (line_from from text) (λ none. n (omega (arith, chars, found.index, index-within (drop from text), width))) (test_here ∙ found.other)
+    pub found-other : (index_of line_feed text ≡ 0 → ⊥) → hex_line (first_line text) ≡ not_hex
+    found-other n = not_pairs (first_line text) (λ none. n (omega (arith, chars))) (test_here ∙ sym other)

@@ -5,13 +5,14 @@ use mathlib.Core.Path.{◌≡◌, refl, ◌∙◌}
 use mathlib.Core.Bool.{true, false}
 use mathlib.Core.List.{List, []}
 use native.Mathlib.Omega.{arith}
+use Rattle.std.proofs.Common.{Ok, Err}
 use borrow.Author.Tests.{ltb-true, ltb-false, lt-ltb, le-ltb, eq-eqb, ne_eqb, le-leb, lt-leb}
 use lib.Dec.{ltb}
 use lib.ListN.{length}
 use Rattle.logic.specs.Written.{written}
 use Rattle.logic.proofs.Choice.{by_cases}
 use Rattle.hex_text.specs.Scan.{is_block}
-use Rattle.hex_text.specs.declared.HexLine.TheVariants.{Block, NoRoom}
+use Rattle.hex_text.specs.declared.LineError.TheVariants.{NoRoom}
 use Rattle.hex_text.specs.Hex.{block, not_hex, pairs, hex_line, line_max, hex_line_for, line_written}
 use Rattle.hex_text.proofs.Pairs.{bytes_of, is_block_lem, is_not_hex, count}
 
@@ -39,7 +40,7 @@ pub some_pairs : (line : List ℕ) → is_block (pairs line) ≡ true → length
 some_pairs line pairs-only none = omega (arith, count line pairs-only)
 
 -- the empty block fits, and writes nothing
-pub empty-fits : (buffer : List ℕ) → (Block 0 ≡ hex_line_for (block []) (length buffer)) × (buffer ≡ line_written (block []) buffer)
+pub empty-fits : (buffer : List ℕ) → (Ok 0 ≡ hex_line_for (block []) (length buffer)) × (buffer ≡ line_written (block []) buffer)
 unfolding written
 empty-fits buffer = simp (le-leb 0 (length buffer) (omega arith)) (refl, refl)
 
@@ -48,8 +49,8 @@ module _ (line buffer : List ℕ) (pairs-only : is_block (pairs line) ≡ true) 
   bytes-length : length (bytes_of (pairs line)) ≡ (length line + 1) / 3
   bytes-length = omega (arith, count line pairs-only)
 
-  pub fits : (length line + 1) / 3 ≤ length buffer → Block ((length line + 1) / 3) ≡ hex_line_for (pairs line) (length buffer)
+  pub fits : (length line + 1) / 3 ≤ length buffer → Ok ((length line + 1) / 3) ≡ hex_line_for (pairs line) (length buffer)
   fits room = rw (is_block_lem (pairs line) pairs-only) (simp (bytes-length, le-leb _ _ room))
 
-  pub does_not_fit : length buffer < (length line + 1) / 3 → (NoRoom ≡ hex_line_for (pairs line) (length buffer)) × (buffer ≡ line_written (pairs line) buffer)
+  pub does_not_fit : length buffer < (length line + 1) / 3 → (Err NoRoom ≡ hex_line_for (pairs line) (length buffer)) × (buffer ≡ line_written (pairs line) buffer)
   does_not_fit room = rw (is_block_lem (pairs line) pairs-only) (simp (bytes-length, lt-leb _ _ room) (refl, refl))

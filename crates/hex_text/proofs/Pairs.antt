@@ -104,8 +104,8 @@ module _ (line : List ℕ) (pairs-only : is_block (pairs line) ≡ true) where
   count = decodes-length (decodes line pairs-only)
 
   -- what stands at the place of the byte n
-  pub pair-here : (i n : ℕ) → i ≡ 3 * n → i < length line → Here (get_or line i 0) (get_or line (i + 1) 0) (get_or (bytes_of (pairs line)) n 0)
-  pair-here i n place h = rw place (let d = decodes-at (decodes line pairs-only) n (omega (arith, count)) in here _ _ _ d.0 d.1)
+  pub pair-here : (n : ℕ) → n < length (bytes_of (pairs line)) → Here (get_or line (3 * n) 0) (get_or line (3 * n + 1) 0) (get_or (bytes_of (pairs line)) n 0)
+  pair-here n h = let d = decodes-at (decodes line pairs-only) n h in here _ _ _ d.0 d.1
 
   pub all-written : (buffer : List ℕ) → length (bytes_of (pairs line)) ≤ length buffer → line_written (pairs line) buffer ≡ sets buffer 0 (bytes_of (pairs line))
   all-written buffer room =

@@ -1,9 +1,9 @@
 -- Document 01, "Examples": a line of upper-case hex pairs parted by one space, as it is read.
-use Rattle.std.specs.Prelude.{ℕ, suc, ◌+◌, ◌-◌, ◌*◌, Bool, cond, ◌&&◌, ◌||◌, List, [], ◌∷◌, ltb, leb, eqb, length, drop}
+use Rattle.std.specs.Prelude.{ℕ, suc, ◌+◌, ◌-◌, ◌*◌, Bool, cond, ◌&&◌, ◌||◌, List, [], ◌∷◌, Result, Ok, Err, ltb, leb, eqb, length, drop}
 use Rattle.logic.specs.Lists.{part}
 use Rattle.logic.specs.Written.{written_in}
-use Rattle.hex_text.specs.declared.HexLine.{HexLine}
-use Rattle.hex_text.specs.declared.HexLine.TheVariants.{Block, NotHex, NoRoom}
+use Rattle.hex_text.specs.declared.LineError.{LineError}
+use Rattle.hex_text.specs.declared.LineError.TheVariants.{NotHex, NoRoom}
 
 abbrev pub space : ℕ
 space = 32
@@ -63,9 +63,9 @@ unfoldable pub hex_line : List ℕ → Line
 hex_line line = cond (ltb line_max (length line)) not_hex (cond (eqb (length line) 0) (block []) (pairs line))
 
 -- each case of the answer to a line, with `room` bytes to put its block: the block's length where it fits
-abbrev pub hex_line_for : Line → ℕ → HexLine
-hex_line_for not_hex room = NotHex
-hex_line_for (block bs) room = cond (leb (length bs) room) (Block (length bs)) NoRoom
+abbrev pub hex_line_for : Line → ℕ → Result ℕ LineError
+hex_line_for not_hex room = Err NotHex
+hex_line_for (block bs) room = cond (leb (length bs) room) (Ok (length bs)) (Err NoRoom)
 
 -- the buffer afterwards: the block over its front where it fits, else as it was
 abbrev pub line_written : Line → List ℕ → List ℕ

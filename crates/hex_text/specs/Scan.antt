@@ -1,6 +1,6 @@
 -- How a line is read: its pairs as far as they go, and whether the last one ends it. The laws tie this to `hex_line`.
-use Rattle.std.specs.Prelude.{ℕ, ◌+◌, Bool, true, false, cond, ◌&&◌, List, [], ◌∷◌, eqb}
-use Rattle.hex_text.specs.Hex.{space, line_feed, is_pair, Line, block, not_hex}
+use Rattle.std.specs.Prelude.{ℕ, ◌+◌, Bool, true, false, cond, ◌&&◌, List, [], ◌∷◌, eqb, take}
+use Rattle.hex_text.specs.Hex.{space, line_feed, is_pair, Line, block, not_hex, index_of}
 
 -- whether a line is a block
 abbrev pub is_block : Line → Bool
@@ -24,3 +24,7 @@ unfoldable pub last_pair : List ℕ → Bool
 last_pair [] = false
 last_pair (high ∷ []) = false
 last_pair (high ∷ low ∷ rest) = is_pair high low && is_line_end rest
+
+-- the first line of a text, without its line feed
+abbrev pub first_line : List ℕ → List ℕ
+first_line text = take (index_of line_feed text) text

@@ -2,8 +2,8 @@
 // or into nothing, and its end is found.
 #![tactic(auto)]
 
-ghost use Rattle.std.specs.Prelude.{◌≡◌, true, ◌+◌, ◌*◌, ◌<◌, ◌≤◌, length, drop};
-ghost use Rattle.hex_text.specs.Scan.{is_block, spaced, is_line_end, last_pair};
+ghost use Rattle.std.specs.Prelude.{◌≡◌, true, ◌+◌, ◌*◌, ◌<◌, ◌≤◌, length};
+ghost use Rattle.hex_text.specs.Scan.{is_block, spaced, is_line_end, last_pair, first_line};
 ghost use Rattle.hex_text.specs.Hex.{is_digit, is_pair, pairs, line_feed, index_of, line_from, line_end, hex_line, hex_line_for, line_written};
 
 use memchr::memchr;
@@ -15,51 +15,47 @@ pub const SPACE: u8 = b' ';
 
 pub const LINE_FEED: u8 = b'\n';
 
-// What a line is.
+// Why a line gives no block.
 #[derive(Clone, Copy)]
-pub enum HexLine {
-    // A block of so many bytes, which stand at the buffer's front.
-    Block(usize),
-    // A line of any other form, or one that is too long.
+pub enum LineError {
+    // It has any other form, or is too long.
     NotHex,
-    // A block that the buffer is too small for. 200 bytes are always enough.
+    // The buffer is too small for its block. 200 bytes are always enough.
     NoRoom,
 }
 
-// A bit for each digit, whose place is what is left of the digit when it is divided by 32.
-const DIGIT_BITS: u32 = 0x03FF007E;
+// A line of a text: how many bytes its block has, which stand at the buffer's front, or why there is none; and the place of its line
+// feed, or of the text's end where it has none.
+#[derive(Clone, Copy)]
+pub struct LineAt {
+    pub line: Result<usize, LineError>,
+    pub end: usize,
+}
 
 fn is_digit(c: u8) -> bool
     ensures { result ≡ is_digit c }
 {
-    (b'0' <= c) & (c <= b'F') & ((DIGIT_BITS >> (c % 32)) % 2 == 1)
+    matches!(c, b'0'..=b'9' | b'A'..=b'F')
 }
 
 fn is_pair(high: u8, low: u8) -> bool
     ensures { result ≡ is_pair high low }
 {
-    if !is_digit(high) {
-        return false;
-    }
-    is_digit(low)
+    is_digit(high) && is_digit(low)
 }
 
-// The place that pairs with a space after each go to, from `from` on.
-fn skip_pairs(text: &[u8], from: usize) -> usize
-    requires { from ≤ length text.now }
-    ensures { result ≡ from + spaced (drop from text.now) }
+// How many characters at the front of a text are pairs with a space after each.
+fn skip_pairs(text: &[u8]) -> usize
+    ensures { result ≡ spaced text.now }
 {
-    let mut i = from;
-    while text.len() - i > 2 {
-        if text[i + 2] != SPACE {
-            return i;
-        }
-        if !is_pair(text[i], text[i + 1]) {
-            return i;
-        }
-        i += 3;
+    let mut rest = text;
+    while let [high, low, after, more @ ..] = rest
+        && *after == SPACE
+        && is_pair(*high, *low)
+    {
+        rest = more;
     }
-    i
+    text.len() - rest.len()
 }
 
 const ZERO: usize = b'0' as usize;
@@ -69,79 +65,80 @@ const VALUES: [u8; 23] =
     *b"\x00\x01\x02\x03\x04\x05\x06\x07\x08\x09\0\0\0\0\0\0\0\x0A\x0B\x0C\x0D\x0E\x0F";
 
 // Puts the bytes of a line of pairs over the front of `block`, which has room for them.
-fn decode(line: &[u8], block: &mut [u8])
-    requires { (is_block (pairs line.now) ≡ true) × (length line.now < 3 * length block.old) }
+fn decode(line: &[u8], count: usize, block: &mut [u8])
+    requires { (is_block (pairs line.now) ≡ true) × (3 * count ≡ length line.now + 1) × (count ≤ length block.old) }
     ensures { block.new ≡ line_written (pairs line.now) block.old }
 {
     let values = VALUES;
-    let mut i = 0;
-    let mut n = 0;
-    while i < line.len() {
-        let high = values[line[i] as usize - ZERO];
-        let low = values[line[i + 1] as usize - ZERO];
+    // Over `line.chunks(3).enumerate()` the invariant would have to say of the iterator all that makes it go on.
+    for n in 0..count {
+        let high = values[line[3 * n] as usize - ZERO];
+        let low = values[line[3 * n + 1] as usize - ZERO];
         block[n] = high * 16 + low;
-        n += 1;
-        i += 3;
     }
 }
 
 // Reads a line of pairs into the front of `block`, where it is not too long and its block fits.
-fn read_pairs(line: &[u8], block: &mut [u8]) -> HexLine
+fn read_pairs(line: &[u8], block: &mut [u8]) -> Result<usize, LineError>
     requires { is_block (pairs line.now) ≡ true }
     ensures { (result ≡ hex_line_for (hex_line line.now) (length block.old)) × (block.new ≡ line_written (hex_line line.now) block.old) }
 {
     if line.len() > LINE_MAX {
-        return HexLine::NotHex;
+        return Err(LineError::NotHex);
     }
     // The last pair has no space after it.
     let count = (line.len() + 1) / 3;
     if count > block.len() {
-        return HexLine::NoRoom;
+        return Err(LineError::NoRoom);
     }
-    decode(line, block);
-    HexLine::Block(count)
+    decode(line, count, block);
+    Ok(count)
 }
 
-// A line of a text: what it is, and the place of its line feed, or of the text's end where it has none.
-#[derive(Clone, Copy)]
-pub struct LineAt {
-    pub line: HexLine,
-    pub end: usize,
-}
-
-// Whether a line ends at `at`: a line feed stands there, or the text has ended.
-fn is_line_end(text: &[u8], at: usize) -> bool
-    requires { at ≤ length text.now }
-    ensures { result ≡ is_line_end (drop at text.now) }
+// Whether a line ends at the front of a text: a line feed stands there, or the text has ended.
+fn is_line_end(text: &[u8]) -> bool
+    ensures { result ≡ is_line_end text.now }
 {
-    if at == text.len() {
-        return true;
-    }
-    text[at] == LINE_FEED
+    matches!(text, [] | [LINE_FEED, ..])
 }
 
-// Whether the last pair of a line stands at `at`.
-fn is_last_pair(text: &[u8], at: usize) -> bool
-    requires { at ≤ length text.now }
-    ensures { result ≡ last_pair (drop at text.now) }
+// Whether the last pair of a line stands at the front of a text.
+fn is_last_pair(text: &[u8]) -> bool
+    ensures { result ≡ last_pair text.now }
 {
-    if text.len() - at < 2 {
-        return false;
+    match text {
+        [high, low, rest @ ..] => is_pair(*high, *low) && is_line_end(rest),
+        _ => false,
     }
-    if !is_line_end(text, at + 2) {
-        return false;
-    }
-    is_pair(text[at], text[at + 1])
 }
 
-// The place of the first line feed of `text` from `from` on, or of the text's end where it has none.
-fn find_line_feed(text: &[u8], from: usize) -> usize
-    requires { from ≤ length text.now }
-    ensures { result ≡ from + index_of line_feed (drop from text.now) }
+// The place of the first line feed of a text, or of the text's end where it has none.
+fn find_line_feed(text: &[u8]) -> usize
+    ensures { result ≡ index_of line_feed text.now }
 {
-    match memchr(LINE_FEED, &text[from..]) {
-        Some(place) => from + place,
-        None => text.len(),
+    memchr(LINE_FEED, text).unwrap_or(text.len())
+}
+
+// Reads the first line of a text into the front of `block`, and finds where it ends.
+fn read_line(text: &[u8], block: &mut [u8]) -> LineAt
+    ensures { (result.end ≡ index_of line_feed text.now)
+        × (result.line ≡ hex_line_for (hex_line (first_line text.now)) (length block.old))
+        × (block.new ≡ line_written (hex_line (first_line text.now)) block.old) }
+{
+    let last = skip_pairs(text);
+    let rest = &text[last..];
+    if is_last_pair(rest) {
+        let end = last + 2;
+        let line = read_pairs(&text[..end], block);
+        return LineAt { line, end };
+    }
+    let end = last + find_line_feed(rest);
+    if end == 0 {
+        return LineAt { line: Ok(0), end };
+    }
+    LineAt {
+        line: Err(LineError::NotHex),
+        end,
     }
 }
 
@@ -153,27 +150,17 @@ pub fn read_line_at(text: &[u8], from: usize, block: &mut [u8]) -> LineAt
         × (result.line ≡ hex_line_for (hex_line (line_from from text.now)) (length block.old))
         × (block.new ≡ line_written (hex_line (line_from from text.now)) block.old) }
 {
-    if from > text.len() {
-        return LineAt {
-            line: HexLine::Block(0),
+    match text.get(from..) {
+        Some(rest) => {
+            let read = read_line(rest, block);
+            LineAt {
+                line: read.line,
+                end: from + read.end,
+            }
+        }
+        None => LineAt {
+            line: Ok(0),
             end: text.len(),
-        };
-    }
-    let last = skip_pairs(text, from);
-    if is_last_pair(text, last) {
-        let end = last + 2;
-        let line = read_pairs(&text[from..end], block);
-        return LineAt { line, end };
-    }
-    let end = find_line_feed(text, last);
-    if end == from {
-        return LineAt {
-            line: HexLine::Block(0),
-            end,
-        };
-    }
-    LineAt {
-        line: HexLine::NotHex,
-        end,
+        },
     }
 }

@@ -1,18 +1,15 @@
 -- The search answers the first place whose byte is a line feed, which is where the line ends, or that there is none.
-use Rattle.std.proofs.Common.{◌+◌, ℕ, drop, length-drop, ap, sym, arith}
+use Rattle.std.proofs.Common.{◌≡◌, ℕ, List, Option, Some, None, length, unwrap_or, arith, sym, ◌∙◌}
 use borrow.Author.Tests.{eqb-true, eq-eqb}
-use Rattle.logic.proofs.Written.{part-rest}
+use Rattle.memchr.specs.Find.{IsFirstByte, is_byte}
+use Rattle.hex_text.specs.Hex.{line_feed, index_of}
 use Rattle.hex_text.proofs.Ends.{first-there, nowhere}
 use Rattle.hex_text.proofs.find_line_feed.Goals as goal
 
-pub returns-in-Some : goal.returns-in-Some
-returns-in-Some c =
-    let e = rw (part-rest c.args.from c.args.text.now) at c.in-Some.ensures in
-    let place = first-there (drop c.args.from c.args.text.now) c.in-Some.place e.0.high (λ j below is. e.0.before j (omega arith) below (eq-eqb _ _ is)) (eqb-true _ _ e.1) in
-    ap (λ (k : ℕ). c.args.from + k) (sym place)
+first_or_end : (place : Option ℕ) (text : List ℕ) → IsFirstByte (is_byte line_feed) text place → unwrap_or place (length text) ≡ index_of line_feed text
+first_or_end None text none = sym (nowhere text (λ j below is. none j (omega arith) below (eq-eqb _ _ is)))
+first_or_end (Some k) text found =
+    sym (first-there text k found.0.high (λ j below is. found.0.before j (omega arith) below (eq-eqb _ _ is)) (eqb-true _ _ found.1))
 
-pub returns-in-None : goal.returns-in-None
-returns-in-None c =
-    let e = rw (part-rest c.args.from c.args.text.now) at c.in-None.ensures in
-    let place = nowhere (drop c.args.from c.args.text.now) (λ j below is. e j (omega arith) below (eq-eqb _ _ is)) in
-    omega (arith, place, length-drop c.args.from c.args.text.now)
+pub returns : goal.returns
+returns c = c.unwrap_or.ensures ∙ first_or_end c.memchr.result c.args.text.now c.memchr.ensures

@@ -1,13 +1,15 @@
--- Two characters are left, a line ends behind them, and they are a pair.
-use Rattle.std.proofs.Common.{arith, sym, ◌∙◌}
-use Rattle.hex_text.proofs.Ends.{too_short, line_goes_on, line-stops}
+-- Two characters are left, they are a pair, and a line ends behind them.
+use Rattle.std.proofs.Common.{sym, ◌∙◌}
+use Rattle.logic.proofs.Written.{part-rest}
+use Rattle.hex_text.proofs.Ends.{last-short, no_last, last-here}
 use Rattle.hex_text.proofs.is_last_pair.Goals as goal
 
-pub returns-then-text-at-lt2 : goal.returns-then-text-at-lt2
-returns-then-text-at-lt2 c = sym (too_short c.args.text.now c.args.at c.if-text-at-lt2.true)
+pub returns-in_default : goal.returns-in_default
+returns-in_default c = sym (last-short c.args.text.now c.in_default.len_below)
 
-pub returns-then-not-is_line_end : goal.returns-then-not-is_line_end
-returns-then-not-is_line_end c = sym (line_goes_on c.args.text.now c.args.at (omega arith) (sym c.if-not-is_line_end.ensures))
+pub returns-then-is_pair : goal.returns-then-is_pair
+returns-then-is_pair c =
+    (rw (part-rest 2 c.args.text.now) at c.is_line_end.ensures) ∙ sym (last-here c.args.text.now c.in-len2-up.len_at_least (sym c.if-is_pair.ensures))
 
-pub returns : goal.returns
-returns c = c.is_pair.ensures ∙ sym (line-stops c.args.text.now c.args.at (omega arith) (sym c.if-not-is_line_end.ensures))
+pub returns-else-is_pair : goal.returns-else-is_pair
+returns-else-is_pair c = c.if-is_pair.false ∙ sym (no_last c.args.text.now (sym c.if-is_pair.ensures))

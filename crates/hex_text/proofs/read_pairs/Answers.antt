@@ -13,7 +13,7 @@ returns-then-count-block c =
     rw (not_blank c.args.line.now (omega arith) (some_pairs c.args.line.now c.requires)) (does_not_fit _ c.args.block.now c.requires (omega arith))
 
 pub decode-requires : goal.decode-requires
-decode-requires c = (c.requires, omega (arith, count _ c.requires))
+decode-requires c = (c.requires, omega (arith, count _ c.requires), omega arith)
 
 pub returns : goal.returns
 returns c =
