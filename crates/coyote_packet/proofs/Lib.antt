@@ -1,5 +1,6 @@
 pub mod Literal
 pub mod Targets
+pub mod Scanned
 pub mod Lengths
 pub mod Fits
 pub mod Frame

@@ -1,33 +1,19 @@
--- Laws of `targets_before`: the steps of a scan, targets that are written, and targets that are read.
+-- Laws of `targets_before`: its limit, targets that are written, and targets that are read.
 -- Assumes nothing.
-use Prim.Native.Nat.{ℕ, zero, suc, ◌+◌, ◌-◌, ◌*◌, ◌<◌, ◌≤◌}
+use Prim.Native.Nat.{ℕ, zero, suc, ◌*◌, ◌<◌, ◌≤◌}
 use mathlib.Core.Path.{◌≡◌, refl, ap, ◌∙◌}
 use mathlib.Core.List.{List, [], ◌∷◌, ◌++◌}
 use native.Mathlib.Omega.{arith}
-use borrow.Author.Tests.{ne_eqb}
 use lib.Dec.{eqb}
-use lib.ListN.{length, get_or, take, drop}
-use lib.Seq.{drop-drop}
+use lib.ListN.{length, take, drop}
 use Rattle.logic.proofs.Choice.{by_cases}
-use Rattle.logic.proofs.Rest.{one_more, nothing_left}
 use Rattle.coyote_packet.specs.Layout.{targets_end, targets_before}
 
 -- the count ends where the bytes end
-pub none_left : (limit : ℕ) → targets_before limit [] ≡ 0
+none_left : (limit : ℕ) → targets_before limit [] ≡ 0
 unfolding targets_before
 none_left zero = refl
 none_left (suc limit) = refl
-
--- and at an 80 in a group's place
-pub at-end : (limit : ℕ) (rest : List ℕ) → targets_before limit (targets_end ∷ rest) ≡ 0
-unfolding targets_before
-at-end zero rest = refl
-at-end (suc limit) rest = refl
-
--- another group is counted, and its address is passed over
-one_target : (limit group : ℕ) (rest : List ℕ) → (group ≡ targets_end → ⊥) → targets_before (suc limit) (group ∷ rest) ≡ suc (targets_before limit (drop 1 rest))
-unfolding targets_before
-one_target limit group rest h = simp (ne_eqb group targets_end h)
 
 pub most : (limit : ℕ) (bytes : List ℕ) → targets_before limit bytes ≤ limit
 unfolding targets_before
@@ -35,22 +21,6 @@ most zero bytes = omega arith
 most (suc limit) [] = omega arith
 most (suc limit) (group ∷ rest) =
     by_cases (eqb group targets_end) (λ t. simp t (omega arith)) (λ f. simp f (omega (arith, most limit (drop 1 rest))))
-
--- a scan that has passed i targets ends where the bytes do
-pub turn_out : (limit i : ℕ) (bytes : List ℕ) → length bytes ≤ 2 * i → targets_before limit (drop (2 * i) bytes) ≡ 0
-turn_out limit i bytes h = rw (nothing_left bytes (2 * i) h) (none_left limit)
-
--- one turn of a scan that has passed i targets
-module _ (limit i : ℕ) (bytes : List ℕ) (l : 2 * i < length bytes) where
-  pub turn_ends : get_or bytes (2 * i) 0 ≡ targets_end → targets_before limit (drop (2 * i) bytes) ≡ 0
-  turn_ends e = rw (one_more bytes (2 * i) 0 l, e) (at-end limit _)
-
-  pub turn_passes : i < limit → (get_or bytes (2 * i) 0 ≡ targets_end → ⊥)
-      → i + targets_before (limit - i) (drop (2 * i) bytes) ≡ i + 1 + targets_before (limit - (i + 1)) (drop (2 * (i + 1)) bytes)
-  turn_passes h other =
-      let q : limit - i ≡ suc (limit - (i + 1)) = omega arith in
-      let place : 2 * i + 1 + 1 ≡ 2 * (i + 1) = omega arith in
-      rw (q, one_more bytes (2 * i) 0 l, one_target _ _ _ other, drop-drop 1 (2 * i + 1) bytes, place) (omega arith)
 
 -- whole targets that are written with an 80 after them are all counted, and no more
 pub targets-written : (m limit k : ℕ) (targets rest : List ℕ) → targets_before m targets ≡ k → 2 * k ≡ length targets → k < limit

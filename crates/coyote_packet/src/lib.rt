@@ -1,6 +1,7 @@
 // The packets of a Coyote XL radio, as they are laid out and as they are read: document 003 and document 02, Ask 10. What a packet holds is
-// an enum over structs of numbers. Targets and data are places in the block that was read. The laws of this crate say that a packet
-// of the layout is read as what it holds, and that a block that is read is a packet of the layout.
+// an enum over structs of numbers. Targets and data are places in the block that was read, and no slices of it, since the C struct has them
+// so. The laws of this crate say that a packet of the layout is read as what it holds, and that a block that is read is a packet of the
+// layout.
 #![tactic(auto)]
 
 ghost use Rattle.std.specs.Prelude.{◌≡◌};
@@ -11,7 +12,8 @@ pub const START: u8 = 0xAA;
 
 pub const END: u8 = 0x55;
 
-// The types that are served. Of the first three the low four bits are a sequence number.
+// The types that are served. Of the first three the low four bits are a sequence number. They are numbers, as writers and C take them: a
+// writer refuses any other number. What was read has its type as a case of `Packet`.
 pub const ACK_DATA: u8 = 0x00;
 
 pub const NO_ACK_DATA: u8 = 0x10;
@@ -56,7 +58,7 @@ pub const DATA_MAX: usize = 1023;
 pub const MEMORY_LENGTH_MIN: u16 = 2;
 
 pub const MEMORY_LENGTH_MAX: u16 = 1023;
-// The largest memory space (RAM) and the largest failure code.
+// The largest memory space (RAM) and the largest failure code. Both are numbers for the same reason.
 pub const MEMORY_SPACE_MAX: u8 = 1;
 
 pub const FAILURE_CODE_MAX: u8 = 5;
@@ -117,22 +119,11 @@ pub enum Decoded {
 }
 
 // How many targets, a group and an address each, are there before the first 80 in a group's place, counted up to the limit.
-#[tactic(auto, using(crate::proofs::Targets::turn_ends, crate::proofs::Targets::turn_passes, crate::proofs::Targets::turn_out), unfolding(crate::specs::Layout::targets_before))]
 pub fn count_targets(limit: u8, bytes: &[u8]) -> usize
     ensures { result ≡ targets_before limit bytes.now }
 {
-    let mut count: usize = 0;
-    while count < limit as usize {
-        let group = 2 * count;
-        if group >= bytes.len() {
-            return count;
-        }
-        if bytes[group] == TARGETS_END {
-            return count;
-        }
-        count += 1;
-    }
-    count
+    let groups = bytes.iter().step_by(2).take(limit as usize);
+    groups.take_while(|group| **group != TARGETS_END).count()
 }
 
 // Whether bytes are 1 to 16 whole targets, none of which has the group 80.
@@ -141,29 +132,26 @@ pub fn fits_targets(targets: &[u8]) -> bool
     ensures { result ≡ fit_targets targets.now }
 {
     let count = count_targets(TARGETS_MAX, targets);
-    (1 <= count) & (2 * count == targets.len())
+    1 <= count && 2 * count == targets.len()
 }
 
 // The most bytes of data that AckData, NoAckData or Ack has, by the type.
 fn data_most(kind: u8) -> usize
     ensures { result ≡ data_most kind }
 {
-    if kind < ACK {
-        return DATA_MAX;
-    }
-    1
+    if kind < ACK { DATA_MAX } else { 1 }
 }
 
 // Whether AckData, NoAckData or Ack, by the type, may have so many bytes of data.
 pub fn fits_data(kind: u8, size: usize) -> bool
     ensures { result ≡ fit_data kind size }
 {
-    (1 <= size) & (size <= data_most(kind))
+    (1..=data_most(kind)).contains(&size)
 }
 
 // Whether ReadMem may ask for so many bytes of this memory space.
 pub fn fits_memory(space: u8, size: u16) -> bool
     ensures { result ≡ fit_memory space size }
 {
-    (space <= MEMORY_SPACE_MAX) & ((MEMORY_LENGTH_MIN <= size) & (size <= MEMORY_LENGTH_MAX))
+    space <= MEMORY_SPACE_MAX && (MEMORY_LENGTH_MIN..=MEMORY_LENGTH_MAX).contains(&size)
 }
