@@ -9,4 +9,3 @@ pub mod Accepted
 pub mod Refusals
 pub mod Whole
 pub mod Exact
-pub mod Determined

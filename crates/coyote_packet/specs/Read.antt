@@ -6,8 +6,6 @@ use Rattle.checksum.specs.Checksum.{sum_holds, ends_hold}
 use Rattle.coyote_packet.specs.declared.Addressed.{Addressed}
 use Rattle.coyote_packet.specs.declared.Packet.{Packet}
 use Rattle.coyote_packet.specs.declared.Packet.TheVariants.{AckData, NoAckData, Ack, ReadMem, Success, Failure}
-use Rattle.coyote_packet.specs.declared.Decoded.{Decoded}
-use Rattle.coyote_packet.specs.declared.Decoded.TheVariants.{Accepted, Refused}
 use Rattle.coyote_packet.specs.Layout.{
   start,
   end,
@@ -33,11 +31,6 @@ use Rattle.coyote_packet.specs.Layout.{
   fit_memory,
   failure_code_max,
 }
-
--- each case of what was read: the packet, or the number of the refusal
-abbrev pub decoded_result : Decoded → Result Packet
-decoded_result (Accepted p) = accepted p
-decoded_result (Refused n) = refused n
 
 -- where the payload begins, and how many bytes of a packet are not payload
 abbrev pub payload_start : ℕ

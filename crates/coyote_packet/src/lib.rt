@@ -70,9 +70,9 @@ pub struct Addressed {
     pub sequence: u8,
     pub source_group: u8,
     pub source_address: u8,
-    pub target_count: usize,
-    pub data_start: usize,
-    pub data_length: usize,
+    pub target_count: u8,
+    pub data_start: u16,
+    pub data_length: u16,
 }
 
 // What ReadMem asks for: MemSpace, Addr and Len.
@@ -87,8 +87,8 @@ pub struct MemoryRead {
 #[derive(Clone, Copy)]
 pub struct Succeeded {
     pub request_type: u8,
-    pub data_start: usize,
-    pub data_length: usize,
+    pub data_start: u16,
+    pub data_length: u16,
 }
 
 // What Failure holds: ReqType and FailCode.
@@ -107,15 +107,6 @@ pub enum Packet {
     ReadMem(MemoryRead),
     Success(Succeeded),
     Failure(Failed),
-}
-
-// What was read from a block.
-#[derive(Clone, Copy)]
-pub enum Decoded {
-    // One whole packet.
-    Accepted(Packet),
-    // The number of the refusal.
-    Refused(u8),
 }
 
 // How many targets, a group and an address each, are there before the first 80 in a group's place, counted up to the limit.
