@@ -7,20 +7,14 @@ ghost use Rattle.logic.specs.Lists.{has_zero};
 ghost use Rattle.cdi_item.specs.Values.{accepted_value};
 ghost use Rattle.cdi_valid.specs.Valid.{valid_input, valid_settings, valid_slot, valid_slots, valid_stored, is_valid};
 
-use cdi_item::{NAME_LENGTH, SLOT_COUNT, Value, code};
+use cdi_item::{NAME_LENGTH, ROW_LENGTH, SLOT_COUNT, Value, code};
 use cdi_state::{AnalogInput, ModuleState, Settings, Slot, Stored};
 
-// Whether a 00 is among the bytes of a name. None ends the loop early, as with the slots below.
-fn has_zero(name: [u8; NAME_LENGTH]) -> bool
-    ensures { result ≡ has_zero name }
+// Whether a 00 is among the bytes of a name.
+fn has_zero(name: &[u8; NAME_LENGTH]) -> bool
+    ensures { result ≡ has_zero name.now }
 {
-    let mut found = false;
-    let mut i: usize = 0;
-    while i < NAME_LENGTH {
-        found = found | (name[i] == 0);
-        i += 1;
-    }
-    found
+    name.iter().any(|byte| *byte == 0)
 }
 
 // Whether an item accepts a byte as its value.
@@ -28,51 +22,38 @@ fn has_zero(name: [u8; NAME_LENGTH]) -> bool
 fn accepts_byte(item: u8, byte: u8) -> bool
     ensures { result ≡ accepted_value item (byte ∷ []) }
 {
-    cdi_item::accepts(
-        item,
-        Value {
-            byte0: byte,
-            byte1: 0,
-            byte2: 0,
-            byte3: 0,
-            byte4: 0,
-        },
-    )
+    cdi_item::accepts(item, Value::from([byte, 0, 0, 0, 0]))
 }
 
 fn is_valid_input(input: AnalogInput) -> bool
     ensures { result ≡ valid_input input }
 {
-    let row = input.bytes();
-    cdi_item::accepts(code::ANALOG_INPUT, Value::from_bytes(row))
+    let row = <[u8; ROW_LENGTH]>::from(input);
+    cdi_item::accepts(code::ANALOG_INPUT, Value::from(row))
 }
 
 fn is_valid_slot(slot: Slot) -> bool
     ensures { result ≡ valid_slot slot }
 {
-    let row = slot.bytes();
-    cdi_item::accepts(code::PAIRED_MODULE, Value::from_bytes(row))
+    let row = <[u8; ROW_LENGTH]>::from(slot);
+    cdi_item::accepts(code::PAIRED_MODULE, Value::from(row))
 }
 
-// No slot ends the loop early: without a branch for each, the loop is cheaper.
-fn are_valid_slots(slots: [Slot; SLOT_COUNT]) -> bool
-    ensures { result ≡ valid_slots slots }
+// No slot ends the loop early, as one would end `all`: without a branch for each, the loop is cheaper.
+fn are_valid_slots(slots: &[Slot; SLOT_COUNT]) -> bool
+    ensures { result ≡ valid_slots slots.now }
 {
     let mut valid = true;
-    let mut i: usize = 0;
-    while i < SLOT_COUNT {
-        let slot = slots[i];
-        valid = valid & is_valid_slot(slot);
-        i += 1;
+    for slot in slots {
+        valid = valid & is_valid_slot(*slot);
     }
     valid
 }
 
-fn are_valid_settings(settings: Settings) -> bool
-    ensures { result ≡ valid_settings settings }
+fn are_valid_settings(settings: &Settings) -> bool
+    ensures { result ≡ valid_settings settings.now }
 {
-    let first = settings.analog_inputs[0];
-    let second = settings.analog_inputs[1];
+    let [first, second] = settings.analog_inputs;
     accepts_byte(code::TX_POWER, settings.tx_power)
         & accepts_byte(code::CONTROL_SOURCE, settings.control_source)
         & accepts_byte(code::MESSAGE_SELECT, settings.message_select)
@@ -81,12 +62,10 @@ fn are_valid_settings(settings: Settings) -> bool
 }
 
 // Whether the stored part of a state is valid.
-fn is_valid_stored(stored: Stored) -> bool
-    ensures { result ≡ valid_stored stored }
+fn is_valid_stored(stored: &Stored) -> bool
+    ensures { result ≡ valid_stored stored.now }
 {
-    let name = stored.name;
-    let slots = stored.slots;
-    has_zero(name) & are_valid_settings(stored.settings) & are_valid_slots(slots)
+    has_zero(&stored.name) & are_valid_settings(&stored.settings) & are_valid_slots(&stored.slots)
 }
 
 // Whether commands and power-ups are accepted on the state (01's "sound").
@@ -94,7 +73,7 @@ fn is_valid_stored(stored: Stored) -> bool
 pub fn is_valid(state: ModuleState) -> bool
     ensures { result ≡ is_valid state }
 {
-    is_valid_stored(state.stored)
-        & are_valid_settings(state.working.settings)
+    is_valid_stored(&state.stored)
+        & are_valid_settings(&state.working.settings)
         & cdi_item::accepts_flags(state.live.flags)
 }
