@@ -1,16 +1,14 @@
 -- The lines that are printed: how long they are, and what a block's line is from a byte on.
 -- Assumes nothing.
-use Prim.Native.Nat.{ℕ, ◌+◌, ◌*◌, ◌/◌, ◌%◌, ◌<◌, ◌≤◌}
+use Prim.Native.Nat.{ℕ, ◌+◌, ◌*◌, ◌/◌, ◌%◌, ◌<◌}
 use mathlib.Core.Path.{◌≡◌, refl, ◌∙◌}
 use mathlib.Core.List.{List, [], ◌∷◌}
 use native.Mathlib.Omega.{arith}
 use native.Mathlib.Nat.{add-zero}
-use lib.Dec.{ltb}
 use lib.ListN.{length, drop, get_or, length-drop}
 use lib.Seq.{get_or-drop, drop-drop}
-use Rattle.logic.proofs.Choice.{by_cases}
 use Rattle.hex_text.specs.Hex.{space, line_feed}
-use Rattle.response_text.specs.Text.{text_in_hex, refused_text, printed, digit_of}
+use Rattle.response_text.specs.Text.{text_in_hex, printed, digit_of}
 
 -- three characters a byte, the line feed included
 pub text_in_hex-length : (bytes : List ℕ) → 0 < length bytes → length (printed (text_in_hex bytes)) ≡ 3 * length bytes
@@ -24,11 +22,6 @@ pub text_in_hex-empty : (bytes : List ℕ) → length bytes ≡ 0 → printed (t
 unfolding text_in_hex
 text_in_hex-empty [] h = refl
 text_in_hex-empty (b ∷ bytes) h = absurd (omega arith)
-
--- the line of a refusal
-pub refused_text-length : (n : ℕ) → length (printed (refused_text n)) ≤ 12
-refused_text-length n =
-    by_cases (ltb n 10) (λ t. simp t (omega arith)) (λ f. by_cases (ltb n 100) (λ t. simp (f, t) (omega arith)) (λ g. simp (f, g) (omega arith)))
 
 more : (bytes : List ℕ) → 1 < length bytes → printed (text_in_hex bytes) ≡ digit_of (get_or bytes 0 0 / 16) ∷ digit_of (get_or bytes 0 0 % 16) ∷ space ∷ printed (text_in_hex (drop 1 bytes))
 unfolding text_in_hex

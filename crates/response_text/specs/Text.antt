@@ -1,5 +1,5 @@
 -- Document 01, "Examples": the lines that are printed.
-use Rattle.std.specs.Prelude.{ℕ, ◌+◌, ◌/◌, ◌%◌, cond, List, [], ◌∷◌, ◌++◌, map, ltb}
+use Rattle.std.specs.Prelude.{ℕ, ◌+◌, ◌/◌, ◌%◌, cond, List, [], ◌∷◌, ◌++◌, Option, Some, None, map, ltb, leb, length}
 use Rattle.logic.specs.Lists.{below}
 use Rattle.hex_text.specs.Hex.{space, line_feed}
 
@@ -34,3 +34,7 @@ not_hex_text = 110 ∷ 111 ∷ 116 ∷ space ∷ 104 ∷ 101 ∷ 120 ∷ []
 -- a line feed ends each line
 abbrev pub printed : List ℕ → List ℕ
 printed text = text ++ line_feed ∷ []
+
+-- what is answered to a line that is to go over the front of a buffer: how many bytes are written, or none where it does not fit
+abbrev pub count_in : List ℕ → List ℕ → Option ℕ
+count_in buffer line = cond (leb (length line) (length buffer)) (Some (length line)) None

@@ -4,72 +4,68 @@
 
 ghost use Rattle.std.specs.Prelude.{◌≡◌, [], ◌∷◌, ◌+◌, ◌*◌, ◌/◌, ◌%◌, ◌<◌, ◌≤◌, length};
 ghost use Rattle.std.proofs.lemmas.List.Edits.{sets};
-ghost use Rattle.logic.specs.Written.{written, length_in, written_in};
-ghost use Rattle.response_text.specs.Text.{digit_of, all_digits, text_in_hex, refused_text, not_hex_text, printed};
+ghost use Rattle.logic.specs.Written.{written, written_in};
+ghost use Rattle.response_text.specs.Text.{digit_of, text_in_hex, refused_text, not_hex_text, printed, count_in};
 
 use hex_text::{LINE_FEED, SPACE};
 
 const DIGITS: [u8; 16] = *b"0123456789ABCDEF";
 
 // Writes a byte's two digits and the character after them, from `at` on.
-fn write_pair(digits: &[u8; 16], byte: u8, after: u8, out: &mut [u8], at: usize)
-    requires { (digits.now ≡ all_digits) × (at + 3 ≤ length out.old) }
+fn write_pair(byte: u8, after: u8, out: &mut [u8], at: usize)
+    requires { at + 3 ≤ length out.old }
     ensures { out.new ≡ sets out.old at (digit_of (byte / 16) ∷ digit_of (byte % 16) ∷ after ∷ []) }
 {
-    out[at] = digits[(byte / 16) as usize];
-    out[at + 1] = digits[(byte % 16) as usize];
+    out[at] = DIGITS[(byte / 16) as usize];
+    out[at + 1] = DIGITS[(byte % 16) as usize];
     out[at + 2] = after;
 }
 
 // Writes one byte or more as a line over the front of `out`, which has room for it.
-fn encode(bytes: &[u8], out: &mut [u8]) -> usize
+fn encode(bytes: &[u8], out: &mut [u8])
     requires { (0 < length bytes.now) × (3 * length bytes.now ≤ length out.old) }
-    ensures { (result ≡ length (printed (text_in_hex bytes.now))) × (out.new ≡ written out.old (printed (text_in_hex bytes.now))) }
+    ensures { out.new ≡ written out.old (printed (text_in_hex bytes.now)) }
 {
-    let digits = DIGITS;
-    let mut i = 0;
-    let mut at = 0;
-    while i + 1 < bytes.len() {
-        write_pair(&digits, bytes[i], SPACE, out, at);
-        i += 1;
-        at += 3;
+    let last = bytes.len() - 1;
+    for (n, byte) in bytes[..last].iter().enumerate() {
+        write_pair(*byte, SPACE, out, 3 * n);
     }
-    write_pair(&digits, bytes[i], LINE_FEED, out, at);
-    at + 3
+    write_pair(bytes[last], LINE_FEED, out, 3 * last);
 }
 
 // Copies a whole line over the front of `out` where it fits.
-fn copy_line(line: &[u8], out: &mut [u8]) -> usize
-    ensures { (result ≡ length_in out.old line.now) × (out.new ≡ written_in out.old line.now) }
+fn copy_line(line: &[u8], out: &mut [u8]) -> Option<usize>
+    ensures { (result ≡ count_in out.old line.now) × (out.new ≡ written_in out.old line.now) }
 {
     if line.len() > out.len() {
-        return 0;
+        return None;
     }
     out[..line.len()].copy_from_slice(line);
-    line.len()
+    Some(line.len())
 }
 
-// Writes bytes as a line of hex, with its line feed, over the front of `out`, and returns how many bytes that is; 0, and
-// nothing is written, where there is no room.
-pub fn write_block(bytes: &[u8], out: &mut [u8]) -> usize
-    ensures { (result ≡ length_in out.old (printed (text_in_hex bytes.now))) × (out.new ≡ written_in out.old (printed (text_in_hex bytes.now))) }
+// Writes bytes as a line of hex, with its line feed, over the front of `out`, and returns how many bytes that is. Where there is no
+// room nothing is written.
+pub fn write_block(bytes: &[u8], out: &mut [u8]) -> Option<usize>
+    ensures { (result ≡ count_in out.old (printed (text_in_hex bytes.now))) × (out.new ≡ written_in out.old (printed (text_in_hex bytes.now))) }
 {
-    if bytes.len() == 0 {
+    if bytes.is_empty() {
         return copy_line(b"\n", out);
     }
     if bytes.len() > out.len() / 3 {
-        return 0;
+        return None;
     }
-    encode(bytes, out)
+    encode(bytes, out);
+    Some(3 * bytes.len())
 }
 
 // The line feed under a short name: so the characters of a line stand in one row.
 const EOL: u8 = LINE_FEED;
 
 // Writes `refused` and a number in decimal as a line, with its line feed, over the front of `out`, and returns how many
-// bytes that is; 0, and nothing is written, where there is no room. The digits are `a`, `b` and `c`, the first in front.
-pub fn write_refused(number: u8, out: &mut [u8]) -> usize
-    ensures { (result ≡ length_in out.old (printed (refused_text number))) × (out.new ≡ written_in out.old (printed (refused_text number))) }
+// bytes that is. Where there is no room nothing is written. The digits are `a`, `b` and `c`, the first in front.
+pub fn write_refused(number: u8, out: &mut [u8]) -> Option<usize>
+    ensures { (result ≡ count_in out.old (printed (refused_text number))) × (out.new ≡ written_in out.old (printed (refused_text number))) }
 {
     if number < 10 {
         let a = b'0' + number;
@@ -89,10 +85,10 @@ pub fn write_refused(number: u8, out: &mut [u8]) -> usize
     copy_line(&line, out)
 }
 
-// Writes `not hex` as a line, with its line feed, over the front of `out`, and returns how many bytes that is; 0, and
-// nothing is written, where there is no room.
-pub fn write_not_hex(out: &mut [u8]) -> usize
-    ensures { (result ≡ length_in out.old (printed not_hex_text)) × (out.new ≡ written_in out.old (printed not_hex_text)) }
+// Writes `not hex` as a line, with its line feed, over the front of `out`, and returns how many bytes that is. Where there is no
+// room nothing is written.
+pub fn write_not_hex(out: &mut [u8]) -> Option<usize>
+    ensures { (result ≡ count_in out.old (printed not_hex_text)) × (out.new ≡ written_in out.old (printed not_hex_text)) }
 {
     copy_line(b"not hex\n", out)
 }

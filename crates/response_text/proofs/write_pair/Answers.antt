@@ -5,4 +5,4 @@ use Rattle.response_text.proofs.Digits.{digits_right}
 use Rattle.response_text.proofs.write_pair.Goals as goal
 
 pub returns : goal.returns
-returns c = simp (c.requires.0, digits_right (c.args.byte / 16) (omega arith), digits_right (c.args.byte % 16) (omega arith), add-one, add-two)
+returns c = simp (digits_right (c.args.byte / 16) (omega arith), digits_right (c.args.byte % 16) (omega arith), add-one, add-two)
