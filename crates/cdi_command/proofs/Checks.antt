@@ -1,14 +1,18 @@
 -- What is left of the definitions after each check.
 -- Assumes nothing.
 use Prim.Native.Nat.{ℕ}
-use mathlib.Core.Path.{◌≡◌, refl, sym, ◌∙◌}
+use mathlib.Core.Path.{◌≡◌, refl, sym}
 use mathlib.Core.Bool.{Bool, true, false, cond, ◌||◌}
 use mathlib.Core.List.{List}
-use borrow.Author.Tests.{eq-eqb, ne_eqb}
-use lib.Dec.{eqb, leb}
+use native.Mathlib.Omega.{arith}
+use borrow.Author.Tests.{ne_eqb}
+use lib.Dec.{eqb, ltb}
 use lib.ListN.{length}
+use Rattle.std.specs.Prelude.{Some}
+use Rattle.std.specs.List.{slice_get}
+use Rattle.std.proofs.lemmas.Option.{slice_get_within, get_or_from_slice_get}
 use Rattle.logic.proofs.Choice.{by_cases, neither}
-use Rattle.refusal.specs.Refusal.{Result, accepted, refused, and_then, none, command_not_served, wrong_length}
+use Rattle.refusal.specs.Refusal.{Result, accepted, refused, and_then, command_not_served, wrong_length}
 use Rattle.cdi_item.specs.declared.Item.{Item}
 use Rattle.cdi_item.specs.declared.Value.{Value}
 use Rattle.cdi_item.specs.Items.{item_of}
@@ -16,12 +20,7 @@ use Rattle.cdi_item.specs.Values.{value_bytes, accepted_value}
 use Rattle.cdi_command.specs.declared.Command.{Command}
 use Rattle.cdi_command.specs.declared.Command.TheVariants.{SetDefault, EraseAll}
 use Rattle.cdi_command.specs.Command.{read, read_nv, write, set_default, erase_all, payload_code, payload_item, has_no_item, mark_of, is_served, is_head_length_right, select, command_on, parse_item, parse_payload, accepts_value, validate_value}
-use Rattle.cdi_command.specs.Check.{is_read_code, unless_refused, bare_command, parse_rest}
-
--- what a number tells of a result
-module _ (n : ℕ) (r x : Result Command) (e : unless_refused n r ≡ x) where
-  pub passed : n ≡ none → x ≡ r
-  passed h = sym e ∙ rw (eq-eqb n none h)
+use Rattle.cdi_command.specs.Check.{is_read_code, bare_command}
 
 -- the definition, where the command is about no item ...
 either_code : (a b : Bool) → a || b ≡ true → (r : Result Command)
@@ -29,30 +28,35 @@ either_code : (a b : Bool) → a || b ≡ true → (r : Result Command)
 either_code true b h r = refl
 either_code false b h r = rw h
 
-module _ (s : List ℕ) (some : length s ≡ 0 → ⊥) where
-  pub on_bare : has_no_item (payload_code s) ≡ true
+module _ (s : List ℕ) (code : ℕ) (first : slice_get s 0 ≡ Some code) where
+  code-is : payload_code s ≡ code
+  code-is = get_or_from_slice_get s 0 code 0 first
+
+  some : length s ≡ 0 → ⊥
+  some e = absurd (omega (arith, slice_get_within s 0 code first))
+
+  pub on_bare : has_no_item code ≡ true
       → parse_payload s ≡ cond (eqb (length s) 1) (accepted (bare_command (payload_code s))) (refused wrong_length)
   unfolding parse_payload is_served is_head_length_right
   on_bare h =
-      rw (ne_eqb (length s) 0 some, h)
-      (by_cases (eqb (length s) 1) (λ l. rw l (either_code (eqb (payload_code s) set_default) (eqb (payload_code s) erase_all) h _)) (λ l. rw l))
+      rw (ne_eqb (length s) 0 some, code-is, h)
+      (by_cases (eqb (length s) 1) (λ l. rw l (either_code (eqb code set_default) (eqb code erase_all) h _)) (λ l. rw l))
 
   -- ... and where it is about one
-  pub on-item : has_no_item (payload_code s) ≡ false
+  pub on-item : has_no_item code ≡ false
       → parse_payload s ≡
-      cond (eqb (mark_of (payload_code s)) 0) (refused command_not_served)
-      (cond (leb 2 (length s)) (and_then (item_of (payload_item s)) (parse_item (payload_code s) s)) (refused wrong_length))
+      cond (eqb (mark_of code) 0) (refused command_not_served)
+      (cond (ltb 1 (length s)) (and_then (item_of (payload_item s)) (parse_item (payload_code s) s)) (refused wrong_length))
   unfolding parse_payload is_served is_head_length_right
   on-item h =
-      let codes = neither (eqb (payload_code s) set_default) (eqb (payload_code s) erase_all) h in
-      simp (ne_eqb (length s) 0 some, codes.0, codes.1)
-      (by_cases (eqb (mark_of (payload_code s)) 0) (λ m. rw m) (λ m. rw m (by_cases (leb 2 (length s)) (λ l. rw l) (λ l. rw l))))
+      let codes = neither (eqb code set_default) (eqb code erase_all) h in
+      simp (ne_eqb (length s) 0 some, code-is, codes.0, codes.1)
+      (by_cases (eqb (mark_of code) 0) (λ m. rw m) (λ m. rw m (by_cases (ltb 1 (length s)) (λ l. rw l) (λ l. rw l))))
 
-pub rest_bare : (s : List ℕ) → has_no_item (payload_code s) ≡ true → parse_rest s ≡ accepted (bare_command (payload_code s))
-rest_bare s h = rw h
-
-pub rest-item : (s : List ℕ) → has_no_item (payload_code s) ≡ false → parse_rest s ≡ and_then (item_of (payload_item s)) (parse_item (payload_code s) s)
-rest-item s h = rw h
+  -- the item is looked up once the code is served and the item is there
+  pub looked_up : (item m : ℕ) → has_no_item code ≡ false → m ≡ mark_of code → (m ≡ 0 → ⊥) → ltb 1 (length s) ≡ true → payload_item s ≡ item
+      → parse_payload s ≡ and_then (item_of item) (parse_item (payload_code s) s)
+  looked_up item m h is some l e = simp (sym is, ne_eqb m 0 some, l, e) at (on-item h)
 
 -- a command about no item carries no value, ...
 pub bare_accepted : (code : ℕ) → validate_value (bare_command code) ≡ accepted (bare_command code)
