@@ -1,9 +1,9 @@
--- Laws of digits: what a digit is, that its value is below 16, and that the code's table of values is right at each entry,
--- which one computed test shows.
+-- Laws of digits: what a digit is, that its value is below 16, and that the code's tables of bits and of values are right at each
+-- entry, which one computed test for each shows.
 -- Assumes nothing.
-use Prim.Native.Nat.{ℕ, ◌-◌, ◌<◌, ◌≤◌}
+use Prim.Native.Nat.{ℕ, ◌-◌, ◌/◌, ◌%◌, ◌^◌, ◌<◌, ◌≤◌}
 use mathlib.Core.Path.{◌≡◌, refl}
-use mathlib.Core.Bool.{Bool, true, ◌&&◌, ◌||◌, not, and-eq-true_iff}
+use mathlib.Core.Bool.{Bool, true, ◌&&◌, ◌||◌, not, beq, and-eq-true_iff}
 use mathlib.Core.List.{List, [], ◌∷◌}
 use mathlib.Core.Logic.{◌⊎◌, inl, inr, ⊎_elim}
 use native.Mathlib.Omega.{arith}
@@ -12,7 +12,7 @@ use lib.Dec.{leb, eqb}
 use lib.ListN.{get_or}
 use Rattle.logic.specs.Lists.{all_below}
 use Rattle.logic.proofs.Below.{all-at}
-use Rattle.logic.proofs.Choice.{by_cases, implied}
+use Rattle.logic.proofs.Choice.{by_cases, same, implied}
 use Rattle.hex_text.specs.Hex.{is_digit, is_pair, digit_value, pair_value}
 
 pub digit_ranges : (c : ℕ) → is_digit c ≡ true → ((48 ≤ c) × (c ≤ 57)) ⊎ ((65 ≤ c) × (c ≤ 70))
@@ -33,6 +33,14 @@ pub pair_small : (high low : ℕ) → is_pair high low ≡ true → pair_value h
 pair_small high low e =
     let p = pair_digits high low e in
     omega (arith, digit_small high p.0, digit_small low p.1)
+
+-- the bits of the digits
+abbrev bit_set : ℕ → Bool
+bit_set c = (leb 48 c && leb c 70) && eqb (0x03FF007E / 2 ^ (c % 32) % 2) 1
+
+pub bits_right : (c : ℕ) → c < 256 → bit_set c ≡ is_digit c
+unfolding all_below
+bits_right c h = same (bit_set c) (is_digit c) (all-at 256 (λ (k : ℕ). beq (bit_set k) (is_digit k)) refl c h)
 
 -- the values of the digits, from `0` on
 abbrev pub all_values : List ℕ

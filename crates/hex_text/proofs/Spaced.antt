@@ -1,17 +1,26 @@
--- The pairs with a space after each: one more of them or none.
+-- The pairs with a space after each: one more of them or none, at a list's front and from a place on.
 -- Assumes nothing.
-use Prim.Native.Nat.{ℕ, suc, ◌+◌, ◌≤◌}
-use mathlib.Core.Path.{◌≡◌, refl}
-use mathlib.Core.Bool.{true, false, ◌&&◌, and-false}
+use Prim.Native.Nat.{ℕ, suc, ◌+◌, ◌-◌, ◌<◌, ◌≤◌}
+use mathlib.Core.Path.{◌≡◌, refl, ◌∙◌}
+use mathlib.Core.Bool.{true, false, cond, ◌&&◌, and-false}
 use mathlib.Core.List.{List, [], ◌∷◌}
 use native.Mathlib.Omega.{arith}
+use native.Mathlib.Nat.{add-zero}
 use native.Mathlib.Numerals.{add-three}
 use borrow.Author.Tests.{eq-eqb, ne_eqb}
 use lib.Dec.{eqb}
-use lib.ListN.{length, drop, get_or}
+use lib.ListN.{length, drop, get_or, length-drop}
+use lib.Seq.{get_or-drop, drop-drop}
 use Rattle.logic.proofs.Choice.{by_cases}
 use Rattle.hex_text.specs.Scan.{spaced}
 use Rattle.hex_text.specs.Hex.{is_pair, space}
+
+three_characters : (l : List ℕ) → 2 < length l → spaced l ≡ cond (is_pair (get_or l 0 0) (get_or l 1 0) && eqb (get_or l 2 0) space) (spaced (drop 3 l) + 3) 0
+unfolding spaced
+three_characters [] h = absurd (omega arith)
+three_characters (a ∷ []) h = absurd (omega arith)
+three_characters (a ∷ b ∷ []) h = absurd (omega arith)
+three_characters (a ∷ b ∷ c ∷ l) h = refl
 
 pub too_few_characters : (l : List ℕ) → length l ≤ 2 → spaced l ≡ 0
 unfolding spaced
@@ -36,24 +45,21 @@ spaced-within (a ∷ b ∷ []) = omega (arith, too_few_characters (a ∷ b ∷ [
 spaced-within (a ∷ b ∷ c ∷ l) =
     by_cases (is_pair a b && eqb c space) (λ t. omega (arith, spaced-three a b c l t, spaced-within l)) (λ f. omega (arith, spaced-none a b c l f))
 
--- the same of the characters at a list's places
-pub spaced-more : (l : List ℕ) → 3 ≤ length l → is_pair (get_or l 0 0) (get_or l 1 0) ≡ true → get_or l 2 0 ≡ space → spaced l ≡ spaced (drop 3 l) + 3
-unfolding spaced
-spaced-more [] h p e = absurd (omega arith)
-spaced-more (a ∷ []) h p e = absurd (omega arith)
-spaced-more (a ∷ b ∷ []) h p e = absurd (omega arith)
-spaced-more (a ∷ b ∷ c ∷ l) h p e = simp (p, eq-eqb c space e)
+-- the same from a place of a text on
+module _ (text : List ℕ) (i : ℕ) where
+  -- two characters or fewer are left
+  pub spaced-short : length text - i ≤ 2 → spaced (drop i text) ≡ 0
+  spaced-short h = too_few_characters (drop i text) (rw length-drop h)
 
-pub no_space : (l : List ℕ) → (get_or l 2 0 ≡ space → ⊥) → spaced l ≡ 0
-unfolding spaced
-no_space [] n = refl
-no_space (a ∷ []) n = refl
-no_space (a ∷ b ∷ []) n = refl
-no_space (a ∷ b ∷ c ∷ l) n = simp (ne_eqb c space n, and-false)
+  module _ (h : 2 < length text - i) where
+    spaced-left : spaced (drop i text) ≡ cond (is_pair (get_or text i 0) (get_or text (i + 1) 0) && eqb (get_or text (i + 2) 0) space) (spaced (drop (i + 3) text) + 3) 0
+    spaced-left = three_characters (drop i text) (rw length-drop h) ∙ simp (get_or-drop, drop-drop, add-zero)
 
-pub no_pair : (l : List ℕ) → is_pair (get_or l 0 0) (get_or l 1 0) ≡ false → spaced l ≡ 0
-unfolding spaced
-no_pair [] p = refl
-no_pair (a ∷ []) p = refl
-no_pair (a ∷ b ∷ []) p = refl
-no_pair (a ∷ b ∷ c ∷ l) p = simp p
+    pub spaced-more : is_pair (get_or text i 0) (get_or text (i + 1) 0) ≡ true → get_or text (i + 2) 0 ≡ space → spaced (drop i text) ≡ spaced (drop (i + 3) text) + 3
+    spaced-more p e = spaced-left ∙ simp (p, eq-eqb (get_or text (i + 2) 0) space e)
+
+    pub no_pair : is_pair (get_or text i 0) (get_or text (i + 1) 0) ≡ false → spaced (drop i text) ≡ 0
+    no_pair p = spaced-left ∙ simp p
+
+    pub no_space : (get_or text (i + 2) 0 ≡ space → ⊥) → spaced (drop i text) ≡ 0
+    no_space n = spaced-left ∙ simp (ne_eqb (get_or text (i + 2) 0) space n, and-false)
