@@ -1,7 +1,6 @@
 // The payload of a command by the parts that it carries: document 01, "Frame" (payloads).
-ghost use Rattle.std.specs.Prelude.{◌≡◌, [], ◌∷◌, length};
+ghost use Rattle.std.specs.Prelude.{◌≡◌, ◌≤◌, [], ◌∷◌, min};
 ghost use Rattle.cdi_command.specs.Payload.{index_byte, value_in};
-ghost use Rattle.cdi_payload.specs.Carried.{Carries};
 
 use super::Payload;
 use cdi_command::{Index, PLAIN_VALUE, ROW_VALUE};
@@ -17,19 +16,15 @@ fn index_byte(index: Index) -> u8
 }
 
 // How many bytes of a value its item has: a value has no more than a row.
-fn value_length(item: Item, value: Value) -> usize
-    ensures { result ≡ length (value_in item value) }
+fn value_length(item: Item) -> usize
+    ensures { result ≡ min 5 item.length }
 {
-    let length = item.length as usize;
-    if length > ROW_LENGTH {
-        return ROW_LENGTH;
-    }
-    length
+    ROW_LENGTH.min(item.length as usize)
 }
 
 // The payload of a command that is its code alone.
 pub(crate) fn bare(code: u8) -> Payload
-    ensures { Carries (code ∷ []) result }
+    ensures { result ≡ code ∷ [] }
 {
     Payload {
         bytes: [code, 0, 0, 0, 0, 0, 0, 0],
@@ -39,7 +34,7 @@ pub(crate) fn bare(code: u8) -> Payload
 
 // The payload of a read of an item that has no index.
 pub(crate) fn read(code: u8, item: Item) -> Payload
-    ensures { Carries (code ∷ item.code ∷ []) result }
+    ensures { result ≡ code ∷ item.code ∷ [] }
 {
     Payload {
         bytes: [code, item.code, 0, 0, 0, 0, 0, 0],
@@ -49,7 +44,7 @@ pub(crate) fn read(code: u8, item: Item) -> Payload
 
 // The payload of a read of a row.
 pub(crate) fn read_row(code: u8, item: Item, index: Index) -> Payload
-    ensures { Carries (code ∷ item.code ∷ index_byte index ∷ []) result }
+    ensures { result ≡ code ∷ item.code ∷ index_byte index ∷ [] }
 {
     Payload {
         bytes: [code, item.code, index_byte(index), 0, 0, 0, 0, 0],
@@ -59,7 +54,7 @@ pub(crate) fn read_row(code: u8, item: Item, index: Index) -> Payload
 
 // The payload of a store of an item that has no index.
 pub(crate) fn store(code: u8, item: Item, value: Value) -> Payload
-    ensures { Carries (code ∷ item.code ∷ value_in item value) result }
+    ensures { result ≡ code ∷ item.code ∷ value_in item value }
 {
     Payload {
         bytes: [
@@ -72,13 +67,13 @@ pub(crate) fn store(code: u8, item: Item, value: Value) -> Payload
             value.byte4,
             0,
         ],
-        length: PLAIN_VALUE + value_length(item, value),
+        length: PLAIN_VALUE + value_length(item),
     }
 }
 
 // The payload of a store of a row.
 pub(crate) fn store_row(code: u8, item: Item, index: Index, value: Value) -> Payload
-    ensures { Carries (code ∷ item.code ∷ index_byte index ∷ value_in item value) result }
+    ensures { result ≡ code ∷ item.code ∷ index_byte index ∷ value_in item value }
 {
     let at = index_byte(index);
     Payload {
@@ -92,6 +87,6 @@ pub(crate) fn store_row(code: u8, item: Item, index: Index, value: Value) -> Pay
             value.byte3,
             value.byte4,
         ],
-        length: ROW_VALUE + value_length(item, value),
+        length: ROW_VALUE + value_length(item),
     }
 }

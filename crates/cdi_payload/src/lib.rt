@@ -4,21 +4,39 @@
 
 mod compose;
 
-ghost use Rattle.cdi_command.specs.Payload.{command_payload};
-ghost use Rattle.cdi_payload.specs.Carried.{Carries};
+ghost use Rattle.std.specs.Prelude.{◌≡◌, ℕ, ◌≤◌, List, take};
+ghost use Rattle.cdi_command.specs.Payload.{command_payload, payload_max};
 
 use cdi_command::{Command, ERASE_ALL, PAYLOAD_MAX, PROGRAM, READ, READ_NV, SET_DEFAULT, WRITE};
+use std::marker::Model;
 
-// A command's payload: its bytes come first, and the bytes after them are free.
-#[derive(Clone, Copy)]
+// A command's payload. Its bytes come first, and the bytes after them are free.
+#[derive(Drop)]
 pub struct Payload {
-    pub bytes: [u8; PAYLOAD_MAX],
-    pub length: usize,
+    bytes: [u8; PAYLOAD_MAX],
+    length: usize,
+}
+
+impl Model for Payload {
+    ghost Value = { List ℕ };
+
+    ghost view = { λ p. take p.length p.bytes };
+
+    ghost invariant = { λ p. p.length ≤ payload_max };
+}
+
+impl Payload {
+    // The payload's own bytes.
+    pub fn as_slice(&self) -> &[u8]
+        ensures { result.now ≡ self.now }
+    {
+        &self.bytes[..self.length]
+    }
 }
 
 // The payload that a command is written as.
 pub fn payload_of(command: Command) -> Payload
-    ensures { Carries (command_payload command) result }
+    ensures { result ≡ command_payload command }
 {
     match command {
         Command::Read(item) => compose::read(READ, item),
