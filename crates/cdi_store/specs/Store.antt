@@ -17,8 +17,6 @@ use Rattle.cdi_state.specs.declared.Working.{Working}
 use Rattle.cdi_state.specs.declared.Live.{Live}
 use Rattle.cdi_state.specs.declared.ModuleState.{ModuleState}
 use Rattle.cdi_state.specs.State.{input_in, slot_in, setting_bytes, place, default_settings, empty_slot, no_rssi}
-use Rattle.cdi_store.specs.declared.SettingField.{SettingField}
-use Rattle.cdi_store.specs.declared.SettingField.TheVariants.{Byte, Row}
 
 -- ---- the stored part with something replaced that commands store in
 abbrev pub replaced : Stored → (address : List ℕ) (settings : Settings) (slots : List Slot) → Stored
@@ -74,11 +72,6 @@ input_from v = input_in (value_bytes v)
 abbrev pub input_stored : Settings → ℕ → AnalogInput → Settings
 input_stored t zero x = t
 input_stored t (suc i) x = with_inputs t (set t.analog_inputs i x)
-
--- a value in the setting that a byte or a row has
-abbrev pub value_stored : Settings → SettingField → Value → Settings
-value_stored t (Byte code) v = setting_stored t code v.byte0
-value_stored t (Row n) v = input_stored t n.0 (input_from v)
 
 abbrev pub address_from : Value → List ℕ
 address_from v = take 4 (value_bytes v)

@@ -3,149 +3,101 @@
 #![tactic(auto)]
 
 ghost use Rattle.std.specs.Prelude.{◌≡◌};
-ghost use Rattle.cdi_command.specs.Command.{validated_result};
-ghost use Rattle.cdi_store.specs.Store.{value_stored, state_for, stores_for, state_at_power_up};
+ghost use Rattle.refusal.specs.Numbers.{answer};
+ghost use Rattle.cdi_store.specs.Store.{setting_stored, input_stored, input_from, state_for, stores_for, state_at_power_up};
 
-use cdi_command::{Command, Index, Validated};
-use cdi_item::{InputNumber, SLOT_COUNT, Value, code};
-use cdi_state::{AnalogInput, ModuleState, RSSI_LENGTH, RSSI_NONE, Settings, Slot};
+use cdi_command::{Command, Index};
+use cdi_item::{InputNumber, ROW_LENGTH, SLOT_COUNT, Value, code};
+use cdi_state::{AnalogInput, Live, ModuleState, RSSI_LENGTH, RSSI_NONE, Settings, Slot, Working};
+use refusal::Refusal;
 
-// One setting of a copy: of one byte, by its item's code, or an input's row.
-#[derive(Clone, Copy)]
-enum SettingField {
-    Byte(u8),
-    Row(InputNumber),
-}
-
-// One copy of the settings with another value. A code that is no setting's and a number that is no input's change nothing.
+// One copy of the settings with another byte, by its item's code. A code that is no setting's changes nothing.
 #[tactic(auto, unfolding(crate::specs::Store::setting_stored))]
-fn with_value(settings: Settings, setting: SettingField, value: Value) -> Settings
-    ensures { result ≡ value_stored settings setting value }
+fn with_byte(settings: Settings, item: u8, byte: u8) -> Settings
+    ensures { result ≡ setting_stored settings item byte }
 {
-    let mut t = settings;
-    match setting {
-        SettingField::Row(number) => {
-            let input = AnalogInput::from_bytes(value.bytes());
-            if number.0 == 1 {
-                t.analog_inputs[0] = input;
-                return t;
-            }
-            if number.0 == 2 {
-                t.analog_inputs[1] = input;
-            }
-            t
-        }
-        SettingField::Byte(item) => {
-            let byte = value.byte0;
-            if item == code::LINE_MASK {
-                t.line_mask = byte;
-                return t;
-            }
-            if item == code::LATCH_MASK {
-                t.latch_mask = byte;
-                return t;
-            }
-            if item == code::TX_POWER {
-                t.tx_power = byte;
-                return t;
-            }
-            if item == code::CONTROL_SOURCE {
-                t.control_source = byte;
-                return t;
-            }
-            if item == code::MESSAGE_SELECT {
-                t.message_select = byte;
-                return t;
-            }
-            if item == code::INTERRUPT_MASK {
-                t.interrupt_mask = byte;
-            }
-            t
-        }
+    let mut after = settings;
+    match item {
+        code::LINE_MASK => after.line_mask = byte,
+        code::LATCH_MASK => after.latch_mask = byte,
+        code::TX_POWER => after.tx_power = byte,
+        code::CONTROL_SOURCE => after.control_source = byte,
+        code::MESSAGE_SELECT => after.message_select = byte,
+        code::INTERRUPT_MASK => after.interrupt_mask = byte,
+        _ => {}
     }
+    after
 }
 
-// The state after a payload that was validated: what is refused stores nothing.
+// One copy of the settings with another input. A number that is no input's changes nothing.
+fn with_input(settings: Settings, number: InputNumber, value: Value) -> Settings
+    ensures { result ≡ input_stored settings number.0 (input_from value) }
+{
+    let mut after = settings;
+    let input = AnalogInput::from(<[u8; ROW_LENGTH]>::from(value));
+    match number.0 {
+        1 => after.analog_inputs[0] = input,
+        2 => after.analog_inputs[1] = input,
+        _ => {}
+    }
+    after
+}
+
+// The state after what was decided: what is refused stores nothing.
 #[tactic(auto, unfolding(crate::specs::Store::setting_stored))]
-pub fn store(state: ModuleState, validated: Validated) -> ModuleState
-    ensures { result ≡ state_for state (validated_result validated) }
+pub fn store(state: ModuleState, decided: Result<Command, Refusal>) -> ModuleState
+    ensures { result ≡ state_for state (answer decided) }
 {
     let mut stored = state.stored;
     let mut working = state.working;
-    let live = state.live;
-    match validated {
-        Validated::Refused(_) => {}
-        Validated::Accepted(command) => match command {
-            Command::Write(item, value) => {
-                let after = with_value(working.settings, SettingField::Byte(item.code), value);
-                working.settings = after;
-            }
-            Command::WriteIndexed(_, index, value) => match index {
-                Index::Slot(_) => {}
-                Index::Input(number) => {
-                    let after = with_value(working.settings, SettingField::Row(number), value);
-                    working.settings = after;
-                }
-            },
-            Command::Program(item, value) => {
-                if item.code == code::ADDRESS {
-                    stored.address = [value.byte0, value.byte1, value.byte2, value.byte3];
-                } else {
-                    let after = with_value(stored.settings, SettingField::Byte(item.code), value);
-                    stored.settings = after;
-                    let after = with_value(working.settings, SettingField::Byte(item.code), value);
-                    working.settings = after;
-                }
-            }
-            Command::ProgramIndexed(_, index, value) => match index {
-                Index::Slot(at) => {
-                    if cdi_item::is_slot_index(at.0) {
-                        let i = at.0 as usize;
-                        let slot = Slot::from_bytes(value.bytes());
-                        stored.slots[i] = slot;
-                    }
-                }
-                Index::Input(number) => {
-                    let after = with_value(stored.settings, SettingField::Row(number), value);
-                    stored.settings = after;
-                    let after = with_value(working.settings, SettingField::Row(number), value);
-                    working.settings = after;
-                }
-            },
-            Command::SetDefault => {
-                let settings = Settings::DEFAULT;
-                stored.settings = settings;
-                working.settings = settings;
-            }
-            Command::EraseAll => {
-                stored.slots = [Slot::EMPTY; SLOT_COUNT];
-            }
-            Command::Read(_)
-            | Command::ReadIndexed(_, _)
-            | Command::ReadNv(_)
-            | Command::ReadNvIndexed(_, _) => {}
-        },
+    match decided {
+        Ok(Command::Write(item, value)) => {
+            working.settings = with_byte(working.settings, item.code, value.byte0);
+        }
+        Ok(Command::WriteIndexed(_, Index::Input(number), value)) => {
+            working.settings = with_input(working.settings, number, value);
+        }
+        Ok(Command::Program(item, value)) if item.code == code::ADDRESS => {
+            stored.address = [value.byte0, value.byte1, value.byte2, value.byte3];
+        }
+        Ok(Command::Program(item, Value { byte0, .. })) => {
+            stored.settings = with_byte(stored.settings, item.code, byte0);
+            working.settings = with_byte(working.settings, item.code, byte0);
+        }
+        Ok(Command::ProgramIndexed(_, Index::Slot(at), value)) if cdi_item::is_slot_index(at.0) => {
+            stored.slots[at.0 as usize] = Slot::from(<[u8; ROW_LENGTH]>::from(value));
+        }
+        Ok(Command::ProgramIndexed(_, Index::Input(number), value)) => {
+            stored.settings = with_input(stored.settings, number, value);
+            working.settings = with_input(working.settings, number, value);
+        }
+        Ok(Command::SetDefault) => {
+            stored.settings = Settings::DEFAULT;
+            working.settings = Settings::DEFAULT;
+        }
+        Ok(Command::EraseAll) => stored.slots = [Slot::EMPTY; SLOT_COUNT],
+        _ => {}
     }
     ModuleState {
         stored,
         working,
-        live,
+        live: state.live,
     }
 }
 
-// Whether a payload that was validated stores anything: the reads do not.
-pub fn stores(validated: Validated) -> bool
-    ensures { result ≡ stores_for (validated_result validated) }
+// Whether what was decided stores anything: the reads do not, and what is refused does not.
+pub fn stores(decided: Result<Command, Refusal>) -> bool
+    ensures { result ≡ stores_for (answer decided) }
 {
-    match validated {
-        Validated::Refused(_) => false,
-        Validated::Accepted(command) => match command {
+    match decided {
+        Err(_) => false,
+        Ok(
             Command::Read(_)
             | Command::ReadIndexed(_, _)
             | Command::ReadNv(_)
-            | Command::ReadNvIndexed(_, _) => false,
-            _ => true,
-        },
+            | Command::ReadNvIndexed(_, _),
+        ) => false,
+        Ok(_) => true,
     }
 }
 
@@ -153,17 +105,16 @@ pub fn stores(validated: Validated) -> bool
 pub fn powered_up(state: ModuleState) -> ModuleState
     ensures { result ≡ state_at_power_up state }
 {
-    let stored = state.stored;
-    let mut working = state.working;
-    let mut live = state.live;
-    let settings = stored.settings;
-    working.settings = settings;
-    live.rssi = [RSSI_NONE; RSSI_LENGTH];
-    live.events = 0;
-    live.flags = 0;
     ModuleState {
-        stored,
-        working,
-        live,
+        stored: state.stored,
+        working: Working {
+            settings: state.stored.settings,
+        },
+        live: Live {
+            rssi: [RSSI_NONE; RSSI_LENGTH],
+            events: 0,
+            flags: 0,
+            ..state.live
+        },
     }
 }
