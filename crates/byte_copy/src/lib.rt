@@ -11,8 +11,9 @@ pub fn copy(source: &[u8], out: &mut [u8]) -> usize
     if source.len() > out.len() {
         return 0;
     }
-    for i in 0..source.len() {
-        out[i] = source[i];
+    // A `copy_from_slice` is a call of C's `memmove`.
+    for (i, byte) in source.iter().enumerate() {
+        out[i] = *byte;
     }
     source.len()
 }
