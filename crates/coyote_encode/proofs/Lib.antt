@@ -1,4 +1,2 @@
-pub mod Copied
-pub mod Enclosed
-pub mod Encoded
+pub mod Parts
 pub mod Laws

@@ -1,5 +1,7 @@
 -- Document 02, Ask 10: the packet that a writer writes for a message.
 use Rattle.std.specs.Prelude.{ℕ, cond, List, ltb, length}
+use Rattle.std.specs.Borrow.{Bor}
+use Rattle.std.specs.List.{flat_map}
 use Rattle.refusal.specs.Refusal.{Result, accepted, refused, frame_buffer_short, packet_content}
 use Rattle.coyote_packet.specs.Layout.{Message, message_bytes, is_accepted}
 
@@ -9,3 +11,14 @@ encode m room =
     cond (is_accepted m)
     (cond (ltb room (length (message_bytes m))) (refused frame_buffer_short) (accepted (message_bytes m)))
     (refused packet_content)
+
+-- the bytes of parts that lie one after the other, at most as many as two bytes can tell
+abbrev pub joined : List (Bor (List ℕ)) → List ℕ
+joined parts = flat_map (λ part. part.now) parts
+
+abbrev pub payload_max : ℕ
+payload_max = 0xFFFF
+
+-- bytes are written if there is room for them
+abbrev pub in_room : (room : ℕ) → List ℕ → Result (List ℕ)
+in_room room bytes = cond (ltb room (length bytes)) (refused frame_buffer_short) (accepted bytes)

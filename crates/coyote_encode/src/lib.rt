@@ -3,194 +3,120 @@
 // was given.
 #![tactic(auto)]
 
-ghost use Rattle.std.specs.Prelude.{◌≡◌, [], ◌∷◌, ◌++◌, ◌+◌, ◌≤◌, length};
-ghost use Rattle.logic.specs.Lists.{part};
-ghost use Rattle.logic.specs.Written.{written, Writes};
-ghost use Rattle.refusal.specs.Refusal.{none, outcome, outcome_of, buffer_after};
-ghost use Rattle.coyote_packet.specs.Layout.{low_first, packet_bytes, addressed, read_mem, success, failure, targets_end, payload_of, data_max};
-ghost use Rattle.coyote_packet.specs.Read.{payload_start, overhead};
-ghost use Rattle.coyote_encode.specs.Encode.{encode};
+ghost use Rattle.std.specs.Prelude.{◌≡◌, ◌≤◌, length};
+ghost use Rattle.std.specs.List.{sum_by};
+ghost use Rattle.refusal.specs.Numbers.{WritesIfAccepted};
+ghost use Rattle.coyote_packet.specs.Layout.{packet_bytes, addressed, read_mem, success, failure};
+ghost use Rattle.coyote_encode.specs.Encode.{payload_max, joined, in_room, encode};
 
 use coyote_packet::{
-    ADDRESSED_END, DATA_MAX, END, FAILURE, FAILURE_CODE_MAX, FAILURE_LENGTH, OVERHEAD,
-    PAYLOAD_START, READ_MEM, READ_MEM_LENGTH, SOURCE_LENGTH, START, SUCCESS, SUCCESS_HEAD,
-    SUM_START, TARGETS_END, TARGETS_TAIL,
+    ADDRESSED_END, DATA_MAX, END, FAILURE, FAILURE_CODE_MAX, OVERHEAD, PAYLOAD_START, READ_MEM,
+    START, SUCCESS, SUM_START, TARGETS_END,
 };
-use refusal::{FRAME_BUFFER_SHORT, NONE, Outcome, PACKET_CONTENT};
+use refusal::Refusal;
 
-// Writes data after its length, whose low byte is first.
-fn put_data(content: &[u8], out: &mut [u8]) -> usize
-    requires { (length content.now ≤ data_max) × (2 + length content.now ≤ length out.old) }
-    ensures { Writes (low_first (length content.now) ++ content.now) out.old out.new result }
-{
-    out[0] = (content.len() % 256) as u8;
-    out[1] = (content.len() / 256) as u8;
-    2 + byte_copy::copy(content, &mut out[2..])
+// From where to where a packet with addresses goes: the group and the address of the source, and the targets, which are bytes: group and
+// address in turn.
+#[derive(Clone, Copy)]
+pub struct Route<'a> {
+    pub group: u8,
+    pub address: u8,
+    pub targets: &'a [u8],
 }
 
-// Writes what is before the data of a packet with addresses: the source, the targets and 80.
-fn put_addresses(group: u8, address: u8, targets: &[u8], out: &mut [u8]) -> usize
-    requires { 3 + length targets.now ≤ length out.old }
-    ensures { Writes (group ∷ address ∷ (targets.now ++ targets_end ∷ [])) out.old out.new result }
+// How many bytes the parts have together.
+fn joined_length(parts: &[&[u8]]) -> usize
+    requires { sum_by (λ part. length part.now) parts.now ≤ payload_max }
+    ensures { result ≡ sum_by (λ part. length part.now) parts.now }
 {
-    out[0] = group;
-    out[1] = address;
-    let end = 2 + byte_copy::copy(targets, &mut out[2..]);
-    out[end] = TARGETS_END;
-    end + 1
+    parts.iter().map(|part| part.len()).sum()
 }
 
-// Writes the payload of AckData, NoAckData or Ack.
-fn put_addressed(
-    kind: u8,
-    group: u8,
-    address: u8,
-    targets: &[u8],
-    content: &[u8],
-    out: &mut [u8],
-) -> usize
-    requires { (length content.now ≤ data_max) × (5 + length targets.now + length content.now ≤ length out.old) }
-    ensures { Writes (payload_of (addressed kind group address targets.now content.now)) out.old out.new result }
+// Writes the packet of a type and of a payload, whose parts lie one after the other in the packet.
+fn write(kind: u8, payload: &[&[u8]], packet: &mut [u8]) -> Result<usize, Refusal>
+    requires { sum_by (λ part. length part.now) payload.now ≤ payload_max }
+    ensures { WritesIfAccepted (in_room (length packet.old) (packet_bytes kind (joined payload.now))) packet.old packet.new result }
 {
-    let start = put_addresses(group, address, targets, out);
-    let length = put_data(content, &mut out[start..]);
-    start + length
-}
-
-// Writes the payload of ReadMem.
-fn put_read_memory(space: u8, address: u16, size: u16, out: &mut [u8]) -> usize
-    requires { 5 ≤ length out.old }
-    ensures { Writes (payload_of (read_mem space address size)) out.old out.new result }
-{
-    out[0] = space;
-    out[1] = (address % 256) as u8;
-    out[2] = (address / 256) as u8;
-    out[3] = (size % 256) as u8;
-    out[4] = (size / 256) as u8;
-    READ_MEM_LENGTH
-}
-
-// Writes the payload of Success.
-fn put_success(request: u8, content: &[u8], out: &mut [u8]) -> usize
-    requires { (length content.now ≤ data_max) × (3 + length content.now ≤ length out.old) }
-    ensures { Writes (payload_of (success request content.now)) out.old out.new result }
-{
-    out[0] = request;
-    let length = put_data(content, &mut out[1..]);
-    1 + length
-}
-
-// Writes the payload of Failure.
-fn put_failure(request: u8, code: u8, out: &mut [u8]) -> usize
-    requires { 4 ≤ length out.old }
-    ensures { Writes (payload_of (failure request code)) out.old out.new result }
-{
-    out[0] = request;
-    out[1] = 1;
-    out[2] = 0;
-    out[3] = code;
-    FAILURE_LENGTH
-}
-
-// Writes the first bytes of a packet, the sum and the last byte around the payload, which is in its place already.
-fn enclose(kind: u8, size: u16, packet: &mut [u8]) -> Outcome
-    requires { size + overhead ≤ length packet.old }
-    ensures { (result ≡ outcome none (size + overhead))
-        × (packet.new ≡ written packet.old (packet_bytes kind (part payload_start size packet.old))) }
-{
+    let size = joined_length(payload);
+    if packet.len() < OVERHEAD + size {
+        return Err(Refusal::FrameBufferShort);
+    }
+    let [low, high] = (size as u16).to_le_bytes();
     packet[0] = START;
     packet[1] = kind;
-    packet[2] = (size % 256) as u8;
-    packet[3] = (size / 256) as u8;
-    let sum_at = PAYLOAD_START + size as usize;
-    let sum = checksum::sum_from(SUM_START, &packet[0..sum_at]);
-    packet[sum_at] = sum;
-    packet[sum_at + 1] = END;
-    Outcome {
-        refusal: NONE,
-        length: sum_at + 2,
+    packet[2] = low;
+    packet[3] = high;
+    let mut end = PAYLOAD_START;
+    for part in payload {
+        end += byte_copy::copy(part, &mut packet[end..]);
     }
+    let sum = checksum::sum_from(SUM_START, &packet[0..end]);
+    packet[end] = sum;
+    packet[end + 1] = END;
+    Ok(end + 2)
 }
 
-// Writes AckData, NoAckData or Ack, by its type, from the source to the targets, which are bytes: group and address in turn.
+// Writes AckData, NoAckData or Ack, by its type.
+#[tactic(auto, unfolding(coyote_packet::specs::Layout::is_accepted, coyote_packet::specs::Layout::payload_of, crate::specs::Encode::encode))]
 pub fn encode_addressed(
     kind: u8,
-    group: u8,
-    address: u8,
-    targets: &[u8],
+    route: Route,
     content: &[u8],
     packet: &mut [u8],
-) -> Outcome
-    ensures { (result ≡ outcome_of (encode (addressed kind group address targets.now content.now) (length packet.old)))
-        × (packet.new ≡ buffer_after (encode (addressed kind group address targets.now content.now) (length packet.old)) packet.old) }
+) -> Result<usize, Refusal>
+    ensures { WritesIfAccepted (encode (addressed kind route.entry.group route.entry.address route.entry.targets.now content.now) (length packet.old)) packet.old packet.new result }
 {
-    if kind >= ADDRESSED_END {
-        return refusal::refused(PACKET_CONTENT);
+    if kind >= ADDRESSED_END
+        || !coyote_packet::fits_targets(route.targets)
+        || !coyote_packet::fits_data(kind, content.len())
+    {
+        return Err(Refusal::PacketContent);
     }
-    if !coyote_packet::fits_targets(targets) {
-        return refusal::refused(PACKET_CONTENT);
-    }
-    if !coyote_packet::fits_data(kind, content.len()) {
-        return refusal::refused(PACKET_CONTENT);
-    }
-    if packet.len() < OVERHEAD + SOURCE_LENGTH + targets.len() + TARGETS_TAIL + content.len() {
-        return refusal::refused(FRAME_BUFFER_SHORT);
-    }
-    let size = put_addressed(
-        kind,
-        group,
-        address,
-        targets,
-        content,
-        &mut packet[PAYLOAD_START..],
-    );
-    enclose(kind, size as u16, packet)
+    let [low, high] = (content.len() as u16).to_le_bytes();
+    let source = [route.group, route.address];
+    let data_head = [TARGETS_END, low, high];
+    write(kind, &[&source, route.targets, &data_head, content], packet)
 }
 
 // Writes a ReadMem for so many bytes of a memory space from an address on.
-#[tactic(auto, unfolding(coyote_packet::specs::Layout::payload_of))]
-pub fn encode_read_memory(space: u8, address: u16, size: u16, packet: &mut [u8]) -> Outcome
-    ensures { (result ≡ outcome_of (encode (read_mem space address size) (length packet.old)))
-        × (packet.new ≡ buffer_after (encode (read_mem space address size) (length packet.old)) packet.old) }
+#[tactic(auto, unfolding(coyote_packet::specs::Layout::is_accepted, coyote_packet::specs::Layout::payload_of, crate::specs::Encode::encode))]
+pub fn encode_read_memory(
+    space: u8,
+    address: u16,
+    size: u16,
+    packet: &mut [u8],
+) -> Result<usize, Refusal>
+    ensures { WritesIfAccepted (encode (read_mem space address size) (length packet.old)) packet.old packet.new result }
 {
     if !coyote_packet::fits_memory(space, size) {
-        return refusal::refused(PACKET_CONTENT);
+        return Err(Refusal::PacketContent);
     }
-    if packet.len() < OVERHEAD + READ_MEM_LENGTH {
-        return refusal::refused(FRAME_BUFFER_SHORT);
-    }
-    let length = put_read_memory(space, address, size, &mut packet[PAYLOAD_START..]);
-    enclose(READ_MEM, length as u16, packet)
+    write(
+        READ_MEM,
+        &[&[space], &address.to_le_bytes(), &size.to_le_bytes()],
+        packet,
+    )
 }
 
 // Writes a Success: the answer to a request of that type, with data.
-#[tactic(auto, unfolding(coyote_packet::specs::Layout::payload_of))]
-pub fn encode_success(request: u8, content: &[u8], packet: &mut [u8]) -> Outcome
-    ensures { (result ≡ outcome_of (encode (success request content.now) (length packet.old)))
-        × (packet.new ≡ buffer_after (encode (success request content.now) (length packet.old)) packet.old) }
+#[tactic(auto, unfolding(coyote_packet::specs::Layout::is_accepted, coyote_packet::specs::Layout::payload_of, crate::specs::Encode::encode))]
+pub fn encode_success(request: u8, content: &[u8], packet: &mut [u8]) -> Result<usize, Refusal>
+    ensures { WritesIfAccepted (encode (success request content.now) (length packet.old)) packet.old packet.new result }
 {
     if content.len() > DATA_MAX {
-        return refusal::refused(PACKET_CONTENT);
+        return Err(Refusal::PacketContent);
     }
-    if packet.len() < OVERHEAD + SUCCESS_HEAD + content.len() {
-        return refusal::refused(FRAME_BUFFER_SHORT);
-    }
-    let size = put_success(request, content, &mut packet[PAYLOAD_START..]);
-    enclose(SUCCESS, size as u16, packet)
+    let size = content.len() as u16;
+    write(SUCCESS, &[&[request], &size.to_le_bytes(), content], packet)
 }
 
 // Writes a Failure: the answer to a request of that type, with its code.
-#[tactic(auto, unfolding(coyote_packet::specs::Layout::payload_of))]
-pub fn encode_failure(request: u8, code: u8, packet: &mut [u8]) -> Outcome
-    ensures { (result ≡ outcome_of (encode (failure request code) (length packet.old)))
-        × (packet.new ≡ buffer_after (encode (failure request code) (length packet.old)) packet.old) }
+#[tactic(auto, unfolding(coyote_packet::specs::Layout::is_accepted, coyote_packet::specs::Layout::payload_of, crate::specs::Encode::encode))]
+pub fn encode_failure(request: u8, code: u8, packet: &mut [u8]) -> Result<usize, Refusal>
+    ensures { WritesIfAccepted (encode (failure request code) (length packet.old)) packet.old packet.new result }
 {
     if code > FAILURE_CODE_MAX {
-        return refusal::refused(PACKET_CONTENT);
+        return Err(Refusal::PacketContent);
     }
-    if packet.len() < OVERHEAD + FAILURE_LENGTH {
-        return refusal::refused(FRAME_BUFFER_SHORT);
-    }
-    let size = put_failure(request, code, &mut packet[PAYLOAD_START..]);
-    enclose(FAILURE, size as u16, packet)
+    write(FAILURE, &[&[request, 1, 0, code]], packet)
 }
