@@ -230,7 +230,7 @@ def stated(head):
 
 
 def parameters(head):
-    """The parameters of a function as pairs of a name and a type; `self` has no type."""
+    """The parameters of a function as pairs of a name and a type; that of `&self` is `&Self`."""
     inside = enclosed(head, head.index("("), "(", ")")
     pairs, depth, parts = [], 0, [""]
     for letter in inside:
@@ -238,7 +238,9 @@ def parameters(head):
         parts = parts + [""] if letter == "," and depth == 0 else [*parts[:-1], parts[-1] + letter]
     for part in parts:
         name, _, kind = part.partition(":")
-        if name.strip():
+        if name.strip().endswith("self"):
+            pairs.append(("self", name.strip().replace("self", "Self")))
+        elif name.strip():
             pairs.append((name.replace("mut ", "").strip(), kind.strip()))
     return pairs
 

@@ -182,7 +182,7 @@ def uncited(fact, given, known):
         return "is no equation between what the function gives and what it was given"
     if len(sides) == 2 and cited(sides[0].split()[0], known) and sides[0].split()[0] == sides[1].split()[0]:
         return "has one definition around both sides"
-    as_it_is = len(sides) == 2 and sides[0] == "result" and sides[1] in dict(given)
+    as_it_is = len(sides) == 2 and any(sides in (["result", name], ["result.now", f"{name}.now"]) for name, _ in given)
     if not (as_it_is or cited(fact if len(sides) == 2 else fact.split()[0], known)):
         return "cites no definition"
     parts = [word for side in sides for word in narrowings(tree(side), known)]
@@ -191,7 +191,8 @@ def uncited(fact, given, known):
 
 def unsaid(path, kind, text, structs):
     """The parts of a result, by their paths, that a text does not speak of."""
-    if re.search(rf"(?<![\w.]){re.escape(path)}(?![\w».])", text):
+    whole = path + ".now" if kind.startswith("&") else path
+    if re.search(rf"(?<![\w.]){re.escape(whole)}(?![\w».])", text):
         return []
     if kind not in structs or not re.search(rf"(?<![\w.]){re.escape(path)}\.", text):
         return [path]
@@ -358,6 +359,8 @@ def mentioned(item, names, libraries):
             found |= {(False, name), (False, "::".join([*owner, name]))}
     methods = ["from" if name == "into" else name for name in re.findall(r"\.(\w+)\(", body)]
     found |= {(kind, name) for kind, name in names if "::" in name and name.split("::")[1] in methods}
+    # A method rests on its type.
+    found |= {(False, item.name.split("::")[0])}
     return found & names
 
 
