@@ -6,7 +6,7 @@ ghost use Rattle.std.specs.Prelude.{◌≡◌};
 ghost use Rattle.refusal.specs.Numbers.{answer};
 ghost use Rattle.freestar_packet.specs.Read.{read_frame, read_packet};
 
-use freestar_packet::{DATA_START, END, Message, OVERHEAD, START, SUM_START};
+use freestar_packet::{END, Message, OVERHEAD, START, SUM_START};
 use refusal::Refusal;
 
 // Reads a block as exactly one packet, of whatever type.
@@ -17,10 +17,7 @@ pub fn read_frame(block: &[u8]) -> Result<Message, Refusal>
     if !checksum::ends_hold(START, END, block) {
         return Err(Refusal::PacketEnds);
     }
-    if block.len() < OVERHEAD as usize {
-        return Err(Refusal::PacketLength);
-    }
-    if block[1] as usize != block.len() {
+    if block.len() < OVERHEAD as usize || block[1] as usize != block.len() {
         return Err(Refusal::PacketLength);
     }
     if !checksum::sum_holds(SUM_START, block) {
@@ -33,18 +30,12 @@ pub fn read_frame(block: &[u8]) -> Result<Message, Refusal>
 }
 
 // Reads a block as exactly one message of the types that are served.
-#[tactic(auto, using(freestar_packet::proofs::Frame::data_within, freestar_packet::proofs::Frame::data_handed), unfolding(freestar_packet::specs::Read::read_packet))]
+#[tactic(auto, using(freestar_packet::proofs::Frame::data_within, freestar_packet::proofs::Frame::framed_ok), unfolding(freestar_packet::specs::Read::read_packet))]
 pub fn decode(block: &[u8]) -> Result<Message, Refusal>
     ensures { answer result ≡ read_packet block.now }
 {
     let message = read_frame(block)?;
-    let end = DATA_START + message.data_length as usize;
-    let content = &block[DATA_START..end];
-    if !freestar_packet::fits(message.kind, content.len()) {
-        return Err(Refusal::PacketContent);
-    }
-    if !freestar_packet::pan_id_holds(message.kind, content) {
-        return Err(Refusal::PanIdOver);
-    }
+    let content = message.content(block);
+    freestar_packet::validate(message.kind, content)?;
     Ok(message)
 }

@@ -29,16 +29,11 @@ fn put_packet(kind: u8, content: &[u8], packet: &mut [u8]) -> usize
 }
 
 // Writes a message of a type that is served.
-#[tactic(auto, using(freestar_packet::proofs::Types::fits_small, freestar_packet::proofs::Frame::packet_length_lem), unfolding(freestar_packet::specs::Encode::encode))]
+#[tactic(auto, using(freestar_packet::proofs::Types::fits_small, freestar_packet::proofs::Frame::packet_length_lem, freestar_packet::proofs::Frame::validated_ok, freestar_packet::proofs::Frame::validated_err), unfolding(freestar_packet::specs::Encode::encode))]
 pub fn encode(kind: u8, content: &[u8], packet: &mut [u8]) -> Result<usize, Refusal>
     ensures { WritesIfAccepted (encode kind content.now (length packet.old)) packet.old packet.new result }
 {
-    if !freestar_packet::fits(kind, content.len()) {
-        return Err(Refusal::PacketContent);
-    }
-    if !freestar_packet::pan_id_holds(kind, content) {
-        return Err(Refusal::PanIdOver);
-    }
+    freestar_packet::validate(kind, content)?;
     if packet.len() < OVERHEAD as usize + content.len() {
         return Err(Refusal::FrameBufferShort);
     }

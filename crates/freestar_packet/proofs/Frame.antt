@@ -1,8 +1,8 @@
 -- A packet is read as its type and data, whatever they are, and a block that is read is the packet of its own type and data.
 -- Assumes nothing.
 use Prim.Native.Nat.{ℕ, suc, ◌+◌, ◌-◌, ◌≤◌}
-use mathlib.Core.Path.{◌≡◌, ap, ◌∙◌}
-use mathlib.Core.Bool.{true, and-eq-true_iff}
+use mathlib.Core.Path.{◌≡◌, refl, sym, ap, ◌∙◌}
+use mathlib.Core.Bool.{Bool, true, false, cond, and-eq-true_iff}
 use mathlib.Core.List.{List, [], ◌∷◌}
 use native.Mathlib.Omega.{arith}
 use borrow.Author.Tests.{le-leb, leb-true, eq-eqb, eqb-true}
@@ -10,13 +10,13 @@ use lib.Dec.{eqb, leb}
 use lib.ListN.{length, get_or, take}
 use lib.Seq.{length-take-le}
 use Rattle.logic.specs.Lists.{part}
-use Rattle.refusal.specs.Refusal.{accepted}
+use Rattle.refusal.specs.Refusal.{Result, accepted, refused, and_then, packet_content, pan_id_over}
 use Rattle.refusal.proofs.Results.{else_refused}
 use Rattle.checksum.specs.Checksum.{summed, sum_holds, ends_hold}
 use Rattle.checksum.proofs.Laws.{summed-length, ends-written, ends_are, summed-after, written_passes, passes_as_written}
 use Rattle.freestar_packet.specs.declared.Message.{Message}
-use Rattle.freestar_packet.specs.Layout.{start, end, overhead, start_of_data, front, sum_start, packet_bytes}
-use Rattle.freestar_packet.specs.Read.{length_holds, data_in, message_of, read_frame}
+use Rattle.freestar_packet.specs.Layout.{start, end, types, fits_in, overhead, start_of_data, front, sum_start, packet_bytes, pan_id_holds}
+use Rattle.freestar_packet.specs.Read.{length_holds, data_in, message_of, read_frame, validated, read_packet}
 
 module _ (type : ℕ) (bytes : List ℕ) where
   pub packet_length_lem : length (packet_bytes type bytes) ≡ overhead + length bytes
@@ -75,7 +75,6 @@ front_of (a ∷ b ∷ c ∷ rest) h l e =
 pub record Framed (block : List ℕ) (m : Message) : Type 0 where
   pub message_is : m ≡ message_of block
   pub enough : overhead ≤ length block
-  pub size_is : get_or block 1 0 ≡ length block
   pub frame_is : block ≡ packet_bytes m.kind (data_in block)
 
 pub accepted-frame : (block : List ℕ) (m : Message) → read_frame block ≡ accepted m → Framed block m
@@ -94,7 +93,6 @@ accepted-frame block m e =
     record {
       message_is = cc;
       enough = low;
-      size_is = size;
       frame_is =
           whole ∙ ap (λ (z : ℕ). summed sum_start z (take (length block - 2) block)) ends.1 ∙ ap (summed sum_start end) before ∙
           ap (λ (x : Message). packet_bytes x.kind (data_in block)) is;
@@ -115,7 +113,39 @@ module _ (block : List ℕ) (m : Message) (e : read_frame block ≡ accepted m) 
   pub data_within : start_of_data + m.data_length ≤ length block
   data_within = omega (arith, (accepted-frame block m e).enough, data_length_is)
 
-  pub data_handed : part start_of_data (start_of_data + m.data_length - start_of_data) block ≡ data_in block
-  data_handed =
-      let same : start_of_data + m.data_length - start_of_data ≡ length block - overhead = omega (arith, data_length_is) in
-      ap (λ (n : ℕ). part start_of_data n block) same
+  pub data_handed : part start_of_data m.data_length block ≡ data_in block
+  data_handed = ap (λ (n : ℕ). part start_of_data n block) data_length_is
+
+-- what a validation says
+abbrev pub Validated : (said : Result (Unit {0})) (type : ℕ) (bytes : List ℕ) → Type 0
+Validated said type bytes = said ≡ validated type bytes tt
+
+-- it holds of any value that comes after it
+module _ {A : Type 0} (x : A) where
+  one_choice : (fit holds : Bool)
+      → and_then {A = Unit {0}} (cond fit (cond holds (accepted tt) (refused pan_id_over)) (refused packet_content)) (λ _. accepted x)
+      ≡ cond fit (cond holds (accepted x) (refused pan_id_over)) (refused packet_content)
+  one_choice true true = refl
+  one_choice true false = refl
+  one_choice false holds = refl
+
+  validated_then : (type : ℕ) (bytes : List ℕ) (r : Result (Unit {0})) → Validated r type bytes → validated type bytes x ≡ and_then r (λ _. accepted x)
+  validated_then type bytes r e = rw e (sym (one_choice (fits_in types type (length bytes)) (pan_id_holds type bytes)))
+
+  pub validated_ok : (type : ℕ) (bytes : List ℕ) → Validated (accepted tt) type bytes → validated type bytes x ≡ accepted x
+  validated_ok type bytes e = validated_then type bytes (accepted tt) e
+
+  pub validated_err : (type : ℕ) (bytes : List ℕ) (n : ℕ) → Validated (refused n) type bytes → validated type bytes x ≡ refused n
+  validated_err type bytes n e = validated_then type bytes (refused n) e
+
+-- a block is read as a packet where its frame is read and its data are validated
+module _ (block : List ℕ) (m : Message) (e : accepted m ≡ read_frame block) where
+  read_data : read_packet block ≡ validated m.kind (part start_of_data m.data_length block) m
+  unfolding read_packet
+  read_data = rw (← e, data_handed block m (sym e))
+
+  pub framed_ok : Validated (accepted tt) m.kind (part start_of_data m.data_length block) → read_packet block ≡ accepted m
+  framed_ok v = read_data ∙ validated_ok m m.kind (part start_of_data m.data_length block) v
+
+  pub framed_err : (n : ℕ) → Validated (refused n) m.kind (part start_of_data m.data_length block) → read_packet block ≡ refused n
+  framed_err n v = read_data ∙ validated_err m m.kind (part start_of_data m.data_length block) n v

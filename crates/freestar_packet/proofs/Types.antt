@@ -1,12 +1,12 @@
 -- Laws of the list of types: the host's are those under 80, no type has more than ten bytes of data, how many those have that set
--- something, and what is left of the host's.
+-- something, what is left of the host's, and a case split on them.
 -- Assumes nothing.
-use Prim.Native.Nat.{ℕ, ◌≤◌}
-use mathlib.Core.Path.{◌≡◌, refl, sym, ap, ◌∙◌}
+use Prim.Native.Nat.{ℕ, ◌<◌, ◌≤◌}
+use mathlib.Core.Path.{◌≡◌, refl, sym, ap, subst, ◌∙◌}
 use mathlib.Core.Bool.{Bool, true, false, not, ◌&&◌, ◌||◌, or_assoc, or-false, and-eq-true_iff, true≢false, false≢true}
 use mathlib.Core.List.{List, [], ◌∷◌, ◌++◌}
 use native.Mathlib.Omega.{arith}
-use borrow.Author.Tests.{leb-true, eqb-true}
+use borrow.Author.Tests.{lt-ltb, ltb-true, leb-true, eqb-true}
 use lib.Dec.{eqb, ltb, leb}
 use Rattle.logic.specs.Lists.{any, all}
 use Rattle.logic.proofs.Choice.{by_cases, either}
@@ -39,6 +39,13 @@ fits_below type size =
     (λ t.
     rw (t, ← fits-either type size, none-fits (λ n. not (ltb n 0x80)) answers type size refl (ap not t)) (or-false (fits_in requests type size)))
     (λ f. rw (f, none-fits (λ n. ltb n 0x80) requests type size refl f))
+
+-- so of a type under 80 they are all the types
+pub fits_under : (type size : ℕ) → type < 0x80 → fits_in types type size ≡ fits_in requests type size
+fits_under type size h = rw (lt-ltb type 0x80 h) at (fits_below type size)
+
+pub request_under : (type size : ℕ) → fits_in requests type size ≡ true → type < 0x80
+request_under type size e = ltb-true type 0x80 ((and-eq-true_iff (ltb type 0x80) (fits_in types type size)).0 (fits_below type size ∙ e)).0
 
 -- data that fit are no more than the most that a line of the list has
 fits-most : (list : List (ℕ × ℕ)) (most type size : ℕ) → all (λ line. leb line.1 most) list ≡ true → fits_in list type size ≡ true → size ≤ most
@@ -77,3 +84,23 @@ pub rest_is_reset : (type size : ℕ)
 unfolding fits_in
 rest_is_reset type size a b c d e f fits =
     eqb-true type reset ((and-eq-true_iff (eqb type reset) (eqb size 0)).0 (sym (simp (a, b, c, d, e, f) (or-false (is_line type size (reset, 0)))) ∙ fits)).0
+
+-- a type is none of the six that read or set
+pub record Other (type : ℕ) : Type 0 where
+  pub not_01 : eqb type set_pan_id ≡ false
+  pub not_02 : eqb type query_pan_id ≡ false
+  pub not_03 : eqb type set_address ≡ false
+  pub not_04 : eqb type query_address ≡ false
+  pub not_05 : eqb type set_channel ≡ false
+  pub not_06 : eqb type query_channel ≡ false
+
+-- a case split on the type of a message
+pub by_type : (P : ℕ → Type 0) → P set_pan_id → P query_pan_id → P set_address → P query_address → P set_channel → P query_channel
+    → ((type : ℕ) → Other type → P type) → (type : ℕ) → P type
+by_type P p₁ p₂ p₃ p₄ p₅ p₆ rest type =
+    split set_pan_id p₁ (λ f₁. split query_pan_id p₂ (λ f₂. split set_address p₃ (λ f₃. split query_address p₄ (λ f₄.
+    split set_channel p₅ (λ f₅. split query_channel p₆ (λ f₆.
+    rest type (record { not_01 = f₁; not_02 = f₂; not_03 = f₃; not_04 = f₄; not_05 = f₅; not_06 = f₆ })))))))
+  where
+    split : (n : ℕ) → P n → (eqb type n ≡ false → P type) → P type
+    split n here other = by_cases (eqb type n) (λ t. subst P (sym (eqb-true type n t)) here) other

@@ -3,15 +3,20 @@
 // block that is read is a packet of the layout.
 #![tactic(auto)]
 
-ghost use Rattle.std.specs.Prelude.{◌≡◌};
-ghost use Rattle.freestar_packet.specs.Layout.{requests, types, fits_in, is_pan_id, has_pan_id, pan_id_holds};
+ghost use Rattle.std.specs.Prelude.{◌≡◌, ◌+◌, ◌≤◌, length};
+ghost use Rattle.logic.specs.Lists.{part};
+ghost use Rattle.refusal.specs.Numbers.{answer};
+ghost use Rattle.freestar_packet.specs.Layout.{requests, types, fits_in, start_of_data, is_pan_id, has_pan_id, pan_id_holds};
+ghost use Rattle.freestar_packet.specs.Read.{validated};
+
+use refusal::Refusal;
 
 // The first and the last byte of every packet.
 pub const START: u8 = 0x01;
 
 pub const END: u8 = 0x04;
 
-// The messages that are served, ...
+// The messages that are served, ... Types are bytes and no enum: a packet of whatever type is framed, and C hands any byte to the writer.
 pub const SET_PAN_ID: u8 = 0x01;
 
 pub const QUERY_PAN_ID: u8 = 0x02;
@@ -67,63 +72,76 @@ pub struct Message {
     pub data_length: u8,
 }
 
+impl Message {
+    // The data of a message, in the block that it was read from.
+    pub fn content(self, block: &[u8]) -> &[u8]
+        requires { start_of_data + self.data_length ≤ length block.now }
+        ensures { result.now ≡ part start_of_data self.data_length block.now }
+    {
+        &block[DATA_START..][..self.data_length as usize]
+    }
+}
+
 // Whether messages of this type are served and have so many bytes of data.
 #[tactic(auto, unfolding(crate::specs::Layout::fits_in))]
 pub fn fits(kind: u8, size: usize) -> bool
     ensures { result ≡ fits_in types kind size }
 {
     match kind {
-        SET_PAN_ID => size == PAN_ID_LENGTH,
-        QUERY_PAN_ID => size == 0,
-        SET_ADDRESS => size == ADDRESSES_LENGTH,
-        QUERY_ADDRESS => size == 0,
-        SET_CHANNEL => size == CHANNEL_LENGTH,
-        QUERY_CHANNEL => size == 0,
-        RESET => size == 0,
-        SET_PAN_ID_ACKNOWLEDGED => size == 0,
-        RESPOND_PAN_ID => size == PAN_ID_LENGTH,
-        SET_ADDRESS_ACKNOWLEDGED => size == 0,
-        RESPOND_ADDRESS => size == ADDRESSES_LENGTH,
-        SET_CHANNEL_ACKNOWLEDGED => size == 0,
-        RESPOND_CHANNEL => size == CHANNEL_LENGTH,
-        RESET_ACKNOWLEDGED => size == 0,
+        SET_PAN_ID | RESPOND_PAN_ID => size == PAN_ID_LENGTH,
+        SET_ADDRESS | RESPOND_ADDRESS => size == ADDRESSES_LENGTH,
+        SET_CHANNEL | RESPOND_CHANNEL => size == CHANNEL_LENGTH,
+        QUERY_PAN_ID | QUERY_ADDRESS | QUERY_CHANNEL | RESET => size == 0,
+        SET_PAN_ID_ACKNOWLEDGED
+        | SET_ADDRESS_ACKNOWLEDGED
+        | SET_CHANNEL_ACKNOWLEDGED
+        | RESET_ACKNOWLEDGED => size == 0,
         _ => false,
     }
 }
 
 // Whether messages of this type are those that the host sends, and have so many bytes of data.
-#[tactic(auto, using(crate::proofs::Types::fits_below))]
+#[tactic(auto, using(crate::proofs::Types::fits_below, crate::proofs::Types::fits_under))]
 pub fn fits_request(kind: u8, size: usize) -> bool
     ensures { result ≡ fits_in requests kind size }
 {
-    (kind < ANSWER) & fits(kind, size)
+    kind < ANSWER && fits(kind, size)
 }
 
 // Whether a PAN ID, by its low and its high byte, has at most 14 bits.
 pub fn fits_pan_id(low: u8, high: u8) -> bool
     ensures { result ≡ is_pan_id low high }
 {
-    let pan_id = low as u16 + 256 * high as u16;
-    pan_id < PAN_ID_LIMIT
+    u16::from_le_bytes([low, high]) < PAN_ID_LIMIT
 }
 
 // Whether the data of this type are a PAN ID.
 pub fn has_pan_id(kind: u8) -> bool
     ensures { result ≡ has_pan_id kind }
 {
-    (kind == SET_PAN_ID) | (kind == RESPOND_PAN_ID)
+    matches!(kind, SET_PAN_ID | RESPOND_PAN_ID)
 }
 
 // Whether data of this type hold no PAN ID that is too large.
 pub fn pan_id_holds(kind: u8, content: &[u8]) -> bool
     ensures { result ≡ pan_id_holds kind content.now }
 {
-    if !has_pan_id(kind) {
-        return true;
+    match content {
+        [low, high, ..] => !has_pan_id(kind) || fits_pan_id(*low, *high),
+        // Data of another length are refused with 27, before their PAN ID is looked at.
+        _ => true,
     }
-    // Data of another length are refused with 27, before their PAN ID is looked at.
-    if content.len() < PAN_ID_LENGTH {
-        return true;
+}
+
+// Accepts what a message of this type may hold, for the reader and the writer: 27 for its type or its length, then 28.
+pub fn validate(kind: u8, content: &[u8]) -> Result<(), Refusal>
+    ensures { answer result ≡ validated kind content.now tt }
+{
+    if !fits(kind, content.len()) {
+        return Err(Refusal::PacketContent);
     }
-    fits_pan_id(content[0], content[1])
+    if !pan_id_holds(kind, content) {
+        return Err(Refusal::PanIdOver);
+    }
+    Ok(())
 }
