@@ -5,15 +5,16 @@
 
 ghost use Rattle.std.specs.Prelude.{◌≡◌, length};
 ghost use Rattle.refusal.specs.Refusal.{outcome_of, buffer_after};
+ghost use Rattle.refusal.specs.Numbers.{answer};
 ghost use Rattle.freestar_packet.specs.Read.{read_packet};
 ghost use Rattle.freestar_packet.specs.Encode.{encode};
 ghost use Rattle.freestar_model.specs.Model.{delivery};
 ghost use Rattle.freestar_settings.specs.Settings.{step, result_of};
 ghost use Rattle.freestar_c.specs.Fields.{message_fields};
 
-use freestar_packet::Decoded;
+use freestar_packet::Message;
 use freestar_settings::Settings;
-use refusal::{NONE, Outcome};
+use refusal::{NONE, Outcome, Refusal};
 
 // What was read from a block: freestar_message of the header.
 #[repr(C)]
@@ -24,34 +25,44 @@ pub struct MessageFields {
     pub data_length: u8,
 }
 
+impl From<Result<Message, Refusal>> for MessageFields {
+    ghost from_gives = { λ read fields. fields ≡ message_fields (answer read) };
+
+    // Of a block that is refused nothing is told but the number.
+    fn from(read: Result<Message, Refusal>) -> MessageFields {
+        match read {
+            Ok(message) => MessageFields {
+                refusal: NONE,
+                kind: message.kind,
+                data_length: message.data_length,
+            },
+            Err(refusal) => MessageFields {
+                refusal: refusal.number(),
+                kind: 0,
+                data_length: 0,
+            },
+        }
+    }
+}
+
 // Reads a block as one message.
 pub fn freestar_decode(block: &[u8]) -> MessageFields
     ensures { result ≡ message_fields (read_packet block.now) }
 {
-    let decoded = freestar_decode::decode(block);
-    match decoded {
-        Decoded::Refused(number) => MessageFields {
-            refusal: number,
-            kind: 0,
-            data_length: 0,
-        },
-        Decoded::Accepted(message) => MessageFields {
-            refusal: NONE,
-            kind: message.kind,
-            data_length: message.data_length,
-        },
-    }
+    freestar_decode::decode(block).into()
 }
 
 // Writes a message.
+#[tactic(auto, using(refusal::proofs::Told::outcome_told))]
 pub fn freestar_encode(kind: u8, content: &[u8], packet: &mut [u8]) -> Outcome
     ensures { (result ≡ outcome_of (encode kind content.now (length packet.old)))
         × (packet.new ≡ buffer_after (encode kind content.now (length packet.old)) packet.old) }
 {
-    freestar_encode::encode(kind, content, packet)
+    freestar_encode::encode(kind, content, packet).into()
 }
 
 // Executes one message on the settings.
+#[tactic(auto, using(refusal::proofs::Told::outcome_told))]
 pub fn freestar_execute(settings: &mut Settings, block: &[u8], response: &mut [u8]) -> Outcome
     ensures { (settings.new ≡ step settings.old (delivery block.now (length response.old)))
         × (result ≡ outcome_of (result_of settings.old (delivery block.now (length response.old))))
@@ -59,5 +70,5 @@ pub fn freestar_execute(settings: &mut Settings, block: &[u8], response: &mut [u
 {
     let done = freestar_settings::execute(*settings, block, response);
     *settings = done.settings;
-    done.outcome
+    done.outcome.into()
 }

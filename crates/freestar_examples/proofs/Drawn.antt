@@ -8,20 +8,20 @@ use native.Mathlib.Omega.{arith}
 use borrow.Author.Tests.{lt-ltb, eq-eqb}
 use lib.Dec.{eqb}
 use lib.ListN.{length, get_or, take, length-append}
+use Rattle.std.specs.Prelude.{Ok}
 use Rattle.logic.specs.Lists.{any}
 use Rattle.logic.proofs.Choice.{neither}
 use Rattle.refusal.specs.Refusal.{Result, accepted, refused, refusal_of, buffer_after}
+use Rattle.refusal.proofs.Determined.{answer_determined}
 use Rattle.checksum.specs.Checksum.{byte_sum}
 use Rattle.sequence.specs.Model.{Apart, stores_in, touches, next, after as modelAfter, results as modelResults, last_or, swap_at}
 use Rattle.sequence.specs.Machine.{run, results, given, NoneStores, Claims}
-use Rattle.freestar_packet.specs.declared.Decoded.TheVariants.{Accepted}
 use Rattle.freestar_packet.specs.Layout.{answer_to, fits_in, packet_bytes, is_accepted}
 use Rattle.freestar_packet.specs.Read.{data_in, read_frame, read_packet, content, read_content}
 use Rattle.freestar_packet.specs.Encode.{encode}
 use Rattle.freestar_packet.specs.Laws.{LaidOut}
 use Rattle.freestar_packet.proofs.Laws.{read_back, read-back_only, read_is_laid_out, written_is_read, read_is_written}
 use Rattle.freestar_packet.proofs.Refusals.{read-refusal, write-refusal}
-use Rattle.freestar_packet.proofs.Determined.{decoded_determined}
 use Rattle.freestar_model.specs.Cells.{Cell, pan_id_cell, long_address_cell, short_address_cell, channel, is_in, Setting, network, address, frequency, cells_of}
 use Rattle.freestar_model.specs.Model.{Delivery, delivery, decide, model}
 use Rattle.freestar_settings.specs.Settings.{ArrayLengths, settings, answer, stored, validate, result_of, step}
@@ -273,7 +273,7 @@ sentences_hold = record {
   address-place = address_laid_out.data_within;
   address_small = address_laid_out.data_small;
   set_packet = (read_is_laid_out set_pan (record { kind = 0x01; data_length = 2 }) set-read).packet_is;
-  one_answer = λ r e. decoded_determined r (Accepted (record { kind = 0x84; data_length = 10 })) (e ∙ address_read);
+  one_answer = λ r e. answer_determined r (Ok (record { kind = 0x84; data_length = 10 })) (e ∙ address_read);
   in_buffer = in_buffer;
   any-channel_in-buffer = any-channel_in-buffer;
   set-again = read_is_written set_pan (record { kind = 0x01; data_length = 2 }) 7 set-read (omega arith);

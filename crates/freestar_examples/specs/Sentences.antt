@@ -1,14 +1,16 @@
 -- Sentences about messages. Each is drawn from a law of the crates below and is stated in numbers, so a law that is made weaker no longer gives its
 -- sentence.
-use Rattle.std.specs.Prelude.{ℕ, ◌+◌, ◌*◌, ◌<◌, ◌≤◌, ◌≡◌, true, false, List, [], ◌∷◌, ◌++◌, map, eqb, length, get_or, take}
+use Rattle.std.specs.Prelude.{ℕ, ◌+◌, ◌*◌, ◌<◌, ◌≤◌, ◌≡◌, true, false, List, [], ◌∷◌, ◌++◌, map, eqb, length, get_or, take, Ok}
+use Rattle.std.specs.Prelude as std
 use Rattle.logic.specs.Lists.{any}
+use Rattle.refusal.specs.declared.Refusal.{Refusal}
 use Rattle.refusal.specs.Refusal.{Result, accepted, refused, refusal_of, buffer_after}
+use Rattle.refusal.specs.Numbers.{answer}
 use Rattle.sequence.specs.Model.{Apart}
 use Rattle.sequence.specs.Machine.{run, results}
-use Rattle.freestar_packet.specs.declared.Decoded.{Decoded}
-use Rattle.freestar_packet.specs.declared.Decoded.TheVariants.{Accepted}
+use Rattle.freestar_packet.specs.declared.Message.{Message}
 use Rattle.freestar_packet.specs.Layout.{packet_bytes, is_accepted, pan_id_fits}
-use Rattle.freestar_packet.specs.Read.{decoded_result, read_packet, content, read_content}
+use Rattle.freestar_packet.specs.Read.{read_packet, content, read_content}
 use Rattle.freestar_packet.specs.Encode.{encode}
 use Rattle.freestar_model.specs.Cells.{Cell, pan_id_cell, long_address_cell, short_address_cell, channel}
 use Rattle.freestar_model.specs.Model.{Delivery, delivery, model}
@@ -92,7 +94,7 @@ pub record Sentences : Type 0 where
   pub address_small : 10 ≤ 10
   pub set_packet : set_pan ≡ packet_bytes 0x01 (0x11 ∷ 0x22 ∷ [])
   -- the contract of the reader leaves one answer
-  pub one_answer : (r : Decoded) → decoded_result r ≡ read_packet address_block → r ≡ Accepted (record { kind = 0x84; data_length = 10 })
+  pub one_answer : (r : std.Result Message Refusal) → answer r ≡ read_packet address_block → r ≡ Ok (record { kind = 0x84; data_length = 10 })
   -- what a writer leaves at the front of a buffer is read as what was written, and what was read is written again as the block
   pub in_buffer : read_content (take 15 (buffer_after (encode 0x84 addresses 20) (unwritten 20))) ≡ accepted (content 0x84 addresses)
   pub any-channel_in-buffer : (b : ℕ) → read_content (take 6 (buffer_after (encode 0x05 (b ∷ []) 20) (unwritten 20))) ≡ accepted (content 0x05 (b ∷ []))

@@ -1,42 +1,19 @@
 -- What a message reads and sets by the struct's fields is what it reads and sets by the model's cells, type by type.
 -- Assumes nothing.
 use Prim.Native.Nat.{ℕ, ◌+◌}
-use mathlib.Core.Path.{◌≡◌, refl, sym, ap, subst, ◌∙◌}
-use mathlib.Core.Bool.{true, false, cond}
+use mathlib.Core.Path.{◌≡◌, refl, sym, ap, ◌∙◌}
+use mathlib.Core.Bool.{true, cond}
 use mathlib.Core.List.{List, [], ◌∷◌, ◌++◌, append-nil}
 use native.Mathlib.Omega.{arith}
-use borrow.Author.Tests.{eqb-true}
-use lib.Dec.{eqb}
 use lib.ListN.{length, get_or, take, drop, length-append, length-drop}
 use lib.Seq.{length-take-le}
-use Rattle.logic.proofs.Choice.{by_cases}
-use Rattle.freestar_packet.specs.Layout.{set_pan_id, query_pan_id, set_address, query_address, set_channel, query_channel, answer_to, requests, fits_in, overhead}
-use Rattle.freestar_packet.proofs.Types.{pan_id_size, address-size, channel-size}
+use Rattle.freestar_packet.specs.Layout.{set_pan_id, set_address, set_channel, answer_to, requests, fits_in, overhead}
+use Rattle.freestar_packet.proofs.Types.{by_type, pan_id_size, address-size, channel-size}
 use Rattle.freestar_packet.proofs.Frame.{packet_length_lem}
 use Rattle.freestar_model.specs.Cells.{Cell, pan_id_cell, long_address_cell, short_address_cell, channel, size, is_in, action_of, read_by, stored_by, total, joined, cut}
 use Rattle.freestar_settings.specs.declared.Settings.{Settings}
 use Rattle.freestar_settings.specs.Settings.{ArrayLengths, answer_data, answer, stored}
 use Rattle.freestar_sequence.specs.Machine.{cells}
-
--- a type is none of the six that read or set
-pub record Other (type : ℕ) : Type 0 where
-  pub not_01 : eqb type set_pan_id ≡ false
-  pub not_02 : eqb type query_pan_id ≡ false
-  pub not_03 : eqb type set_address ≡ false
-  pub not_04 : eqb type query_address ≡ false
-  pub not_05 : eqb type set_channel ≡ false
-  pub not_06 : eqb type query_channel ≡ false
-
--- a case split on the type of a message
-pub by_type : (P : ℕ → Type 0) → P set_pan_id → P query_pan_id → P set_address → P query_address → P set_channel → P query_channel
-    → ((type : ℕ) → Other type → P type) → (type : ℕ) → P type
-by_type P p₁ p₂ p₃ p₄ p₅ p₆ rest type =
-    split set_pan_id p₁ (λ f₁. split query_pan_id p₂ (λ f₂. split set_address p₃ (λ f₃. split query_address p₄ (λ f₄.
-    split set_channel p₅ (λ f₅. split query_channel p₆ (λ f₆.
-    rest type (record { not_01 = f₁; not_02 = f₂; not_03 = f₃; not_04 = f₄; not_05 = f₅; not_06 = f₆ })))))))
-  where
-    split : (n : ℕ) → P n → (eqb type n ≡ false → P type) → P type
-    split n here other = by_cases (eqb type n) (λ t. subst P (sym (eqb-true type n t)) here) other
 
 -- the data of the answer are the cells that are read
 pub data_agree : (s : Settings) (type : ℕ) → answer_data s type ≡ joined (cells s) (read_by (action_of type))

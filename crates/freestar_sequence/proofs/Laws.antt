@@ -20,7 +20,7 @@ use Rattle.freestar_packet.specs.declared.Message.{Message}
 use Rattle.freestar_packet.specs.Layout.{set_pan_id, set_address, set_channel, answer_to, requests, fits_in, overhead, packet_bytes, pan_id_fits, pan_id_holds, is_accepted}
 use Rattle.freestar_packet.specs.Read.{data_in, read_frame}
 use Rattle.freestar_packet.specs.Encode.{in_room}
-use Rattle.freestar_packet.proofs.Types.{pan_id_size, address-size, channel-size, rest_is_reset}
+use Rattle.freestar_packet.proofs.Types.{by_type, pan_id_size, address-size, channel-size}
 use Rattle.freestar_packet.proofs.Frame.{accepted-frame}
 use Rattle.freestar_packet.proofs.Laws.{read_back}
 use Rattle.freestar_packet.proofs.Refusals.{then-among, step_refusals, frame-among, room-among}
@@ -28,12 +28,12 @@ use Rattle.freestar_model.specs.Cells.{Cell, pan_id_cell, long_address_cell, sho
 use Rattle.freestar_model.specs.Model.{Delivery, Decision, execute, decide_frame, decide, stores, given as gave, model}
 use Rattle.freestar_model.proofs.Lawful.{lawful, fits_kept, joined_same}
 use Rattle.freestar_settings.specs.declared.Settings.{Settings}
-use Rattle.freestar_settings.specs.Settings.{ArrayLengths, address_bytes, answer_data, answer, stored, validate_message, validate, result_of, settings_by, step}
+use Rattle.freestar_settings.specs.Settings.{ArrayLengths, answer_data, answer, stored, validate_message, validate, result_of, settings_by, step}
 use Rattle.freestar_settings.proofs.Accepted.{Valid, validated}
-use Rattle.freestar_settings.proofs.Answers.{acknowledged-accepted, pan_id_accepted, address-accepted, address-length, channel-accepted}
+use Rattle.freestar_settings.proofs.Answers.{answer-accepted}
 use Rattle.freestar_sequence.specs.Machine.{cells, machine}
 use Rattle.freestar_sequence.specs.Laws.{type_of, set_type, query_type, SequenceTheorem, AnswerIsRead, LastSetIsTold, SetIsTold, OnlySets, OtherTypes, ResetLeaves, RefusedLeaves, PanIdKept, RefusalNumbers}
-use Rattle.freestar_sequence.proofs.Agreement.{by_type, data_agree}
+use Rattle.freestar_sequence.proofs.Agreement.{data_agree}
 use Rattle.freestar_sequence.proofs.Follows.{decided, cells_are, follows}
 
 pub sequence_theorem : SequenceTheorem
@@ -124,24 +124,6 @@ only_sets s x =
 
 pub pan_id_kept : PanIdKept
 pan_id_kept s x h = (ap pan_id_fits (cells_are s h x pan_id_cell) ∙ fits_kept (cells s) x, λ packet e. (answered_as s x packet e).valid.settings_hold)
-
--- the writer accepts every answer
-abbrev AnswerAccepted : Settings → ℕ → Type 0
-AnswerAccepted s type = (size : ℕ) → fits_in requests type size ≡ true → is_accepted (answer_to type) (answer_data s type) ≡ true
-
-answer-accepted : (s : Settings) → ArrayLengths s → pan_id_fits s.pan_id ≡ true → (type : ℕ) → AnswerAccepted s type
-answer-accepted s h fits =
-    by_type (AnswerAccepted s)
-    (λ size _. acknowledged-accepted.0)
-    (λ size _. pan_id_accepted s.pan_id h.pan_id fits)
-    (λ size _. acknowledged-accepted.1)
-    (λ size _. address-accepted (address_bytes s) (address-length s h.long-address h.short-address))
-    (λ size _. acknowledged-accepted.2)
-    (λ size _. channel-accepted s.channel)
-    (λ type o size e.
-    subst (λ (k : ℕ). is_accepted (answer_to k) (answer_data s k) ≡ true)
-    (sym (rest_is_reset type size o.not_01 o.not_02 o.not_03 o.not_04 o.not_05 o.not_06 e))
-    acknowledged-accepted.3)
 
 pub answer_is_read : AnswerIsRead
 unfolding answer

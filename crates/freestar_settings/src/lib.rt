@@ -3,19 +3,18 @@
 #![tactic(auto)]
 
 ghost use Rattle.std.specs.Prelude.{◌≡◌, true, length};
-ghost use Rattle.refusal.specs.Refusal.{outcome_of, buffer_after};
+ghost use Rattle.refusal.specs.Numbers.{answer as answer_of, WritesIfAccepted};
 ghost use Rattle.freestar_packet.specs.Layout.{requests, fits_in, pan_id_fits};
-ghost use Rattle.freestar_packet.specs.Read.{decoded_result};
 ghost use Rattle.freestar_packet.specs.Encode.{in_room};
 ghost use Rattle.freestar_model.specs.Model.{delivery};
 ghost use Rattle.freestar_settings.specs.Settings.{ArrayLengths, address_bytes, stored, answer, validate, step, result_of};
 
 use freestar_packet::{
-    DATA_START, Decoded, QUERY_ADDRESS, QUERY_CHANNEL, QUERY_PAN_ID, RESET_ACKNOWLEDGED,
-    RESPOND_ADDRESS, RESPOND_CHANNEL, RESPOND_PAN_ID, SET_ADDRESS, SET_ADDRESS_ACKNOWLEDGED,
-    SET_CHANNEL, SET_CHANNEL_ACKNOWLEDGED, SET_PAN_ID, SET_PAN_ID_ACKNOWLEDGED,
+    ANSWER, Message, QUERY_ADDRESS, QUERY_CHANNEL, QUERY_PAN_ID, SET_ADDRESS, SET_CHANNEL,
+    SET_PAN_ID,
 };
-use refusal::{NONE, Outcome, PACKET_CONTENT, PAN_ID_OVER};
+use refusal::Refusal;
+use std::slice;
 
 // The settings, each in the order of its bytes in a message: the low byte first.
 #[repr(C)]
@@ -35,131 +34,94 @@ impl Settings {
     {
         self
     }
+
+    // Accepts a block as a message from the host, or refuses it with 24 to 28. The room for the answer is not looked at.
+    #[tactic(auto, using(freestar_packet::proofs::Frame::data_within, freestar_packet::proofs::Frame::data_handed), unfolding(crate::specs::Settings::validate))]
+    fn accept(&self, block: &[u8]) -> Result<Message, Refusal>
+        ensures { answer_of result ≡ validate self.now block.now }
+    {
+        let message = freestar_decode::read_frame(block)?;
+        let content = message.content(block);
+        if !freestar_packet::fits_request(message.kind, content.len()) {
+            return Err(Refusal::PacketContent);
+        }
+        let [low, high] = self.pan_id;
+        if !(freestar_packet::pan_id_holds(message.kind, content)
+            && freestar_packet::fits_pan_id(low, high))
+        {
+            return Err(Refusal::PanIdOver);
+        }
+        Ok(message)
+    }
+
+    // Both addresses as one message has them.
+    fn addresses(&self) -> [u8; 10]
+        ensures { result ≡ address_bytes self.now }
+    {
+        let [a, b, c, d, e, f, g, h] = self.long_address;
+        let [i, j] = self.short_address;
+        [a, b, c, d, e, f, g, h, i, j]
+    }
+
+    // Writes the answer to a message, if there is room for it.
+    fn respond(&self, message: Message, response: &mut [u8]) -> Result<usize, Refusal>
+        requires { (fits_in requests message.kind message.data_length ≡ true) × (pan_id_fits self.now.pan_id ≡ true) }
+        ensures { WritesIfAccepted (in_room (length response.old) (answer self.now message.kind)) response.old response.new result }
+    {
+        let addresses = self.addresses();
+        let content: &[u8] = match message.kind {
+            QUERY_PAN_ID => &self.pan_id,
+            QUERY_ADDRESS => &addresses,
+            QUERY_CHANNEL => slice::from_ref(&self.channel),
+            _ => b"",
+        };
+        let kind = ANSWER + message.kind;
+        freestar_encode::encode(kind, content, response)
+    }
+
+    // Stores the data of a message of this type.
+    #[tactic(auto, unfolding(crate::specs::Settings::stored, freestar_packet::specs::Layout::fits_in))]
+    fn store(&mut self, kind: u8, content: &[u8])
+        requires { fits_in requests kind (length content.now) ≡ true }
+        ensures { self.new ≡ stored self.old kind content.now }
+    {
+        match kind {
+            SET_PAN_ID => self.pan_id = content.try_into().unwrap(),
+            SET_ADDRESS => {
+                let (long, short) = content.split_at(8);
+                self.long_address = long.try_into().unwrap();
+                self.short_address = short.try_into().unwrap();
+            }
+            SET_CHANNEL => self.channel = content[0],
+            _ => {}
+        }
+    }
+
+    // Decides on a message, answers it, and stores. A refusal changes no byte of `response` and nothing in the settings.
+    #[tactic(auto, unfolding(crate::specs::Settings::step, crate::specs::Settings::result_of))]
+    fn take(&mut self, block: &[u8], response: &mut [u8]) -> Result<usize, Refusal>
+        ensures { (self.new ≡ step self.old (delivery block.now (length response.old)))
+            × WritesIfAccepted (result_of self.old (delivery block.now (length response.old))) response.old response.new result }
+    {
+        let message = self.accept(block)?;
+        let length = self.respond(message, response)?;
+        self.store(message.kind, message.content(block));
+        Ok(length)
+    }
 }
 
 // What came of a message: the settings after it, and the refusal or the length of the answer.
-#[repr(C)]
 #[derive(Clone, Copy)]
 pub struct Executed {
     pub settings: Settings,
-    pub outcome: Outcome,
+    pub outcome: Result<usize, Refusal>,
 }
 
-// Accepts a block as a message from the host, or gives the number of its refusal: 24 to 28. The room for the answer is not looked at.
-#[tactic(auto, using(freestar_packet::proofs::Frame::data_within, freestar_packet::proofs::Frame::data_handed), unfolding(crate::specs::Settings::validate))]
-fn accept(settings: Settings, block: &[u8]) -> Decoded
-    ensures { decoded_result result ≡ validate settings block.now }
-{
-    let frame = freestar_decode::read_frame(block);
-    match frame {
-        Decoded::Refused(number) => Decoded::Refused(number),
-        Decoded::Accepted(message) => {
-            let end = DATA_START + message.data_length as usize;
-            let content = &block[DATA_START..end];
-            if !freestar_packet::fits_request(message.kind, content.len()) {
-                return Decoded::Refused(PACKET_CONTENT);
-            }
-            if !freestar_packet::pan_id_holds(message.kind, content) {
-                return Decoded::Refused(PAN_ID_OVER);
-            }
-            let pan_id = settings.pan_id;
-            if !freestar_packet::fits_pan_id(pan_id[0], pan_id[1]) {
-                return Decoded::Refused(PAN_ID_OVER);
-            }
-            Decoded::Accepted(message)
-        }
-    }
-}
-
-// Writes the answer to a message of this type, if there is room for it.
-fn respond(settings: Settings, kind: u8, size: usize, response: &mut [u8]) -> Outcome
-    requires { (fits_in requests kind size ≡ true) × (pan_id_fits settings.pan_id ≡ true) }
-    ensures { (result ≡ outcome_of (in_room (length response.old) (answer settings kind)))
-        × (response.new ≡ buffer_after (in_room (length response.old) (answer settings kind)) response.old) }
-{
-    match kind {
-        SET_PAN_ID => freestar_encode::encode(SET_PAN_ID_ACKNOWLEDGED, b"", response),
-        QUERY_PAN_ID => freestar_encode::encode(RESPOND_PAN_ID, &settings.pan_id, response),
-        SET_ADDRESS => freestar_encode::encode(SET_ADDRESS_ACKNOWLEDGED, b"", response),
-        QUERY_ADDRESS => {
-            let addresses = addresses(settings);
-            freestar_encode::encode(RESPOND_ADDRESS, &addresses, response)
-        }
-        SET_CHANNEL => freestar_encode::encode(SET_CHANNEL_ACKNOWLEDGED, b"", response),
-        QUERY_CHANNEL => {
-            let channel = [settings.channel];
-            freestar_encode::encode(RESPOND_CHANNEL, &channel, response)
-        }
-        _ => freestar_encode::encode(RESET_ACKNOWLEDGED, b"", response),
-    }
-}
-
-// Both addresses as one message has them.
-fn addresses(settings: Settings) -> [u8; 10]
-    ensures { result ≡ address_bytes settings }
-{
-    let long = settings.long_address;
-    let short = settings.short_address;
-    [
-        long[0], long[1], long[2], long[3], long[4], long[5], long[6], long[7], short[0], short[1],
-    ]
-}
-
-// The settings after a message of this type with these data.
-#[tactic(auto, using(logic::proofs::Places::part_is_bytes), unfolding(crate::specs::Settings::stored, freestar_packet::specs::Layout::fits_in))]
-fn store(mut settings: Settings, kind: u8, content: &[u8]) -> Settings
-    requires { fits_in requests kind (length content.now) ≡ true }
-    ensures { result ≡ stored settings kind content.now }
-{
-    match kind {
-        SET_PAN_ID => {
-            let pan_id = [content[0], content[1]];
-            settings.pan_id = pan_id;
-            settings
-        }
-        SET_ADDRESS => {
-            let long = [
-                content[0], content[1], content[2], content[3], content[4], content[5], content[6],
-                content[7],
-            ];
-            let short = [content[8], content[9]];
-            settings.long_address = long;
-            settings.short_address = short;
-            settings
-        }
-        SET_CHANNEL => {
-            settings.channel = content[0];
-            settings
-        }
-        _ => settings,
-    }
-}
-
-// Executes one message on settings: decides on it, answers, and stores. A refusal changes no byte of `response` and nothing in the settings.
-#[tactic(auto, unfolding(crate::specs::Settings::step, crate::specs::Settings::result_of))]
-pub fn execute(settings: Settings, block: &[u8], response: &mut [u8]) -> Executed
+// Executes one message on settings. A refusal changes no byte of `response` and nothing in the settings.
+pub fn execute(mut settings: Settings, block: &[u8], response: &mut [u8]) -> Executed
     ensures { (result.settings ≡ step settings (delivery block.now (length response.old)))
-        × (result.outcome ≡ outcome_of (result_of settings (delivery block.now (length response.old))))
-        × (response.new ≡ buffer_after (result_of settings (delivery block.now (length response.old))) response.old) }
+        × WritesIfAccepted (result_of settings (delivery block.now (length response.old))) response.old response.new result.outcome }
 {
-    let accepted = accept(settings, block);
-    match accepted {
-        Decoded::Refused(number) => {
-            let outcome = refusal::refused(number);
-            Executed { settings, outcome }
-        }
-        Decoded::Accepted(message) => {
-            let size = message.data_length as usize;
-            let outcome = respond(settings, message.kind, size, response);
-            if outcome.refusal != NONE {
-                return Executed { settings, outcome };
-            }
-            let end = DATA_START + size;
-            let after = store(settings, message.kind, &block[DATA_START..end]);
-            Executed {
-                settings: after,
-                outcome,
-            }
-        }
-    }
+    let outcome = settings.take(block, response);
+    Executed { settings, outcome }
 }
