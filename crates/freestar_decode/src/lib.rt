@@ -30,7 +30,7 @@ pub fn read_frame(block: &[u8]) -> Result<Message, Refusal>
 }
 
 // Reads a block as exactly one message of the types that are served.
-#[tactic(auto, using(freestar_packet::proofs::Frame::data_within, freestar_packet::proofs::Frame::framed_ok), unfolding(freestar_packet::specs::Read::read_packet))]
+#[tactic(auto, using(freestar_packet::proofs::Frame::framed_ok), unfolding(freestar_packet::specs::Read::read_packet))]
 pub fn decode(block: &[u8]) -> Result<Message, Refusal>
     ensures { answer result ≡ read_packet block.now }
 {

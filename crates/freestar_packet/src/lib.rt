@@ -3,7 +3,7 @@
 // block that is read is a packet of the layout.
 #![tactic(auto)]
 
-ghost use Rattle.std.specs.Prelude.{◌≡◌, ◌+◌, ◌≤◌, length};
+ghost use Rattle.std.specs.Prelude.{◌≡◌};
 ghost use Rattle.logic.specs.Lists.{part};
 ghost use Rattle.refusal.specs.Numbers.{answer};
 ghost use Rattle.freestar_packet.specs.Layout.{requests, types, fits_in, start_of_data, is_pan_id, has_pan_id, pan_id_holds};
@@ -73,12 +73,12 @@ pub struct Message {
 }
 
 impl Message {
-    // The data of a message, in the block that it was read from.
+    // The data of a message, in the block that it was read from; of a shorter block, as many as there are.
     pub fn content(self, block: &[u8]) -> &[u8]
-        requires { start_of_data + self.data_length ≤ length block.now }
         ensures { result.now ≡ part start_of_data self.data_length block.now }
     {
-        &block[DATA_START..][..self.data_length as usize]
+        let rest = &block[DATA_START.min(block.len())..];
+        &rest[..rest.len().min(self.data_length as usize)]
     }
 }
 

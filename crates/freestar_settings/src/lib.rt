@@ -36,7 +36,7 @@ impl Settings {
     }
 
     // Accepts a block as a message from the host, or refuses it with 24 to 28. The room for the answer is not looked at.
-    #[tactic(auto, using(freestar_packet::proofs::Frame::data_within, freestar_packet::proofs::Frame::data_handed), unfolding(crate::specs::Settings::validate))]
+    #[tactic(auto, using(freestar_packet::proofs::Frame::data_handed), unfolding(crate::specs::Settings::validate))]
     fn accept(&self, block: &[u8]) -> Result<Message, Refusal>
         ensures { answer_of result ≡ validate self.now block.now }
     {

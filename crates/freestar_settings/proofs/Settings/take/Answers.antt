@@ -2,7 +2,7 @@
 use Rattle.std.proofs.Common.{ℕ, List, length, sym, ap, ◌∙◌}
 use Rattle.freestar_packet.specs.Layout.{requests, fits_in}
 use Rattle.freestar_packet.specs.Read.{data_in}
-use Rattle.freestar_packet.proofs.Frame.{data_size, data_within, data_handed}
+use Rattle.freestar_packet.proofs.Frame.{data_size, data_handed}
 use Rattle.freestar_settings.specs.Settings.{stored, answer, step, result_of}
 use Rattle.freestar_settings.proofs.Accepted.{validated, set_anew}
 use Rattle.freestar_settings.proofs.Settings.take.Goals as goal
@@ -12,11 +12,6 @@ respond-requires c =
     let m = c.in_ok-message.message in
     let v = validated c.args.self.now c.args.block.now m (sym c.in_ok-message.ensures) in
     (ap (fits_in requests m.kind) (sym (data_size c.args.block.now m v.framed)) ∙ v.fitting, v.settings_hold)
-
-pub content-requires : goal.content-requires
-content-requires c =
-    let m = c.in_ok-message.message in
-    data_within c.args.block.now m (validated c.args.self.now c.args.block.now m (sym c.in_ok-message.ensures)).framed
 
 pub store-requires : goal.store-requires
 store-requires c =
