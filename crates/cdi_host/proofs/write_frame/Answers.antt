@@ -23,9 +23,9 @@ returns c =
     let p = a.payload.now in
     let s = c.write_prefix.new.frame in
     let i = a.wake + 3 in
-    let long : length s ≡ length a.frame.now = c.write_prefix.auto.frame in (
-      sym (frame-length a.wake p),
-      copied s p c.copy.new.out i (omega arith) c.copy.ensures.1 ∙
+    let long : length s ≡ length a.frame.now = c.write_prefix.auto.frame in record {
+      size = sym (frame-length a.wake p);
+      over = copied s p c.copy.new.out i (omega arith) c.copy.ensures.1 ∙
           ap (λ (l : List ℕ). sets l i p) c.write_prefix.ensures ∙
-          frame-stored a.frame.now p a.wake (omega arith),
-    )
+          frame-stored a.frame.now p a.wake (omega arith);
+    }
