@@ -1,13 +1,19 @@
 -- The contract of `decide` determines its answer: no two answers have one decision.
 -- Assumes nothing.
-use mathlib.Core.Path.{◌≡◌}
-use Rattle.cdi_command.specs.declared.Validated.{Validated}
-use Rattle.cdi_command.specs.declared.Validated.TheVariants.{Accepted, Refused}
-use Rattle.cdi_command.specs.Command.{validated_result}
+use Rattle.std.specs.Prelude.{◌≡◌}
+use Rattle.std.specs.Prelude as std
+use Rattle.refusal.specs.declared.Refusal.{Refusal}
+use Rattle.refusal.specs.Refusal.{Result, accepted, refused}
+use Rattle.refusal.specs.Numbers.{answer}
+use Rattle.refusal.proofs.Determined.{answer_determined}
+use Rattle.cdi_command.specs.declared.Command.{Command}
 use Rattle.cdi_module.specs.Module.{decided}
 
-pub decided_determined : (a b : Validated) → decided (validated_result a) ≡ decided (validated_result b) → a ≡ b
-decided_determined (Accepted x) (Accepted y) e = cc
-decided_determined (Accepted x) (Refused y) e = cc
-decided_determined (Refused x) (Accepted y) e = cc
-decided_determined (Refused x) (Refused y) e = cc
+one-decision : (r s : Result Command) → decided r ≡ decided s → r ≡ s
+one-decision (accepted x) (accepted y) e = cc
+one-decision (accepted x) (refused m) e = cc
+one-decision (refused n) (accepted y) e = cc
+one-decision (refused n) (refused m) e = cc
+
+pub decided_determined : (a b : std.Result Command Refusal) → decided (answer a) ≡ decided (answer b) → a ≡ b
+decided_determined a b e = answer_determined a b (one-decision (answer a) (answer b) e)

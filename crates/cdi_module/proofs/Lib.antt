@@ -1,4 +1,3 @@
-pub mod Responses
 pub mod Views
 pub mod Shown
 pub mod Validity
@@ -9,3 +8,4 @@ pub mod Within
 pub mod Factory
 pub mod Decided
 pub mod Determined
+pub mod Block

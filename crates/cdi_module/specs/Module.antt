@@ -1,9 +1,12 @@
 -- Document 01, "Numbers that a refusal carries" (the unit, power-up): what the module decides on a step, and the state and the
 -- result by that decision. The contracts of the entries cite `step` and `result_of`; the sequence theorem holds them against the
 -- reference model. Those of the functions that the entries are made of cite `decide_given` and `responded_to`.
-use Rattle.std.specs.Prelude.{ℕ, List, Bool, cond, ltb, length}
+use Rattle.std.specs.Prelude.{ℕ, List, Bool, cond, ltb, length, Ok, Err}
+use Rattle.std.specs.Prelude as std
 use Rattle.logic.specs.Written.{written}
+use Rattle.refusal.specs.declared.Refusal.{Refusal}
 use Rattle.refusal.specs.Refusal.{Result, accepted, refused, and_then, none, invalid, response_buffer_short}
+use Rattle.refusal.specs.Numbers.{outcome_from}
 use Rattle.cdi_frame.specs.Frame.{command_wake_limit, read_frame, payload_in}
 use Rattle.cdi_frame.specs.Layout.{response_frame}
 use Rattle.cdi_command.specs.declared.Command.{Command}
@@ -77,3 +80,13 @@ result_of s x = result_by s x (decide s x)
 abbrev pub responded_to : ModuleState → Result Command → List ℕ → StepResult
 responded_to s r response =
     cond (ltb (length response) response_buffer_min) (responded response_buffer_short 0 response) (block_result s response (decided r))
+
+-- ---- what the answers of the source tell
+-- of a block: the number of the refusal or none, the length of the response, and the buffer afterwards
+abbrev pub told : std.Result ℕ Refusal → List ℕ → StepResult
+told r response = responded (outcome_from r).refusal (outcome_from r).length response
+
+-- of a power-up: the state after it. A refusal leaves the state
+abbrev pub state_left : ModuleState → std.Result ModuleState Refusal → ModuleState
+state_left s (Ok after) = after
+state_left s (Err e) = s
