@@ -3,10 +3,11 @@
 use Prim.Native.Nat.{ℕ}
 use mathlib.Core.Path.{◌≡◌, refl, sym, ap, ◌∙◌}
 use mathlib.Core.List.{List, [], ◌∷◌, ◌++◌}
-use mathlib.Core.Bool.{Bool, true, false, not, and-eq-true_iff}
+use mathlib.Core.Bool.{Bool, true, false, not, ◌&&◌, and-eq-true_iff}
 use native.Mathlib.Omega.{arith}
 use borrow.Author.Tests.{eqb-true}
 use lib.Dec.{eqb}
+use lib.Pointwise.{pointwise}
 use lib.ListN.{length, drop, length-drop, take-append-drop}
 use lib.Seq.{drop-drop}
 use Rattle.logic.specs.Lists.{same_bytes, part}
@@ -26,6 +27,13 @@ pub fit_loads : (s : ModuleState) (contents : List ℕ) → Fit contents
     → loaded s (mark ++ version1 ++ contents) ≡ accepted (state_at_power_up (with_stored s (stored_in contents)))
 unfolding loaded
 fit_loads s contents f = rw (f.size, f.valid)
+
+-- what `==` answers of two slices of bytes
+pub pointwise_is_same : (l m : List ℕ) → pointwise eqb l m ≡ same_bytes l m
+pointwise_is_same [] [] = refl
+pointwise_is_same [] (c ∷ m) = refl
+pointwise_is_same (b ∷ l) [] = refl
+pointwise_is_same (b ∷ l) (c ∷ m) = ap (λ (t : Bool). eqb b c && t) (pointwise_is_same l m)
 
 same_bytes_lem : (l m : List ℕ) → same_bytes l m ≡ true → l ≡ m
 same_bytes_lem [] [] e = refl

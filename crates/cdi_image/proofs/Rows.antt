@@ -1,12 +1,13 @@
 -- A slot, and so many slots one behind the other: each is read as what was written, and written as what was read.
 -- Assumes nothing.
 use Prim.Native.Nat.{ℕ, zero, suc, ◌+◌, ◌*◌, ◌<◌, suc-le-suc}
-use mathlib.Core.Path.{◌≡◌, refl, ap, ◌∙◌}
+use mathlib.Core.Path.{◌≡◌, refl, sym, ap, ◌∙◌}
 use mathlib.Core.List.{List, [], ◌∷◌, ◌++◌, flat_map}
 use native.Mathlib.Omega.{arith}
 use native.Mathlib.Nat.{zero-lt-suc}
 use lib.ListN.{length, get_or, take, drop, length-append, length-drop, take-append-drop}
-use lib.Seq.{length-take-le, take_at, drop_at, get_or_at}
+use lib.Seq.{length-take-le, take_at, drop_at, drop-drop, get_or_at, ext_get_or}
+use Rattle.logic.specs.Lists.{part}
 use Rattle.cdi_state.specs.declared.Slot.{Slot}
 use Rattle.cdi_state.specs.State.{slot_bytes, no_slot, slot_in}
 use Rattle.cdi_state.proofs.Rows.{slot_written}
@@ -60,3 +61,24 @@ slots-written (suc n) rows h =
     slots-written n (drop 5 rows) (omega (arith, length-drop 5 rows, h))
     in
     rw (one, more) (take-append-drop 5 rows)
+
+-- a slot by its number: the row at five times that number
+pub slots-at : (n : ℕ) (rows : List ℕ) (i : ℕ) → i < n → get_or (slots_in n rows) i no_slot ≡ slot_in (part (5 * i) 5 rows)
+unfolding slots_in
+slots-at zero rows i h = absurd (omega arith)
+slots-at (suc n) rows zero h = refl
+slots-at (suc n) rows (suc i) h =
+    let behind : 5 * suc i ≡ 5 + 5 * i = omega arith in
+    slots-at n (drop 5 rows) i (omega arith) ∙ rw (drop-drop (5 * i) 5 rows, behind)
+
+slots-count : (n : ℕ) (rows : List ℕ) → length (slots_in n rows) ≡ n
+unfolding slots_in
+slots-count zero rows = refl
+slots-count (suc n) rows = omega (arith, slots-count n (drop 5 rows))
+
+-- so many slots, each made of its row
+pub slots_made : (n : ℕ) (slots : List Slot) (rows : List ℕ) → length slots ≡ n
+    → ((i : ℕ) → i < n → get_or slots i no_slot ≡ slot_in (part (5 * i) 5 rows)) → slots ≡ slots_in n rows
+slots_made n slots rows long each =
+    ext_get_or no_slot slots (slots_in n rows) (long ∙ sym (slots-count n rows))
+    (λ i h. each i (omega (arith, long, h)) ∙ sym (slots-at n rows i (omega (arith, long, h))))

@@ -11,7 +11,6 @@ use Rattle.cdi_state.specs.declared.ModuleState.{ModuleState}
 use Rattle.cdi_state.specs.State.{input_bytes, slot_bytes, input_in, slot_in, input_at, setting_bytes}
 use Rattle.cdi_valid.specs.Valid.{valid_stored, is_valid}
 use Rattle.cdi_store.specs.Store.{state_at_power_up}
-use Rattle.cdi_image.specs.declared.Loaded.{Loaded}
 
 -- ---- the head of an image: the mark, then the version
 -- SWB
@@ -129,7 +128,11 @@ loaded s image =
     (cond (not (same_bytes (between version_at head_size image) version1)) (refused image_version)
     (stored_loaded s (stored_in (drop head_size image)))))
 
--- what a Load answers: the state after it and 0, or the number of its refusal, which leaves the state
+-- what a Load tells C: the state after it and 0, or the number of its refusal, which leaves the state
+pub record Loaded : Type 0 where
+  pub state : ModuleState
+  pub refusal : ℕ
+
 abbrev pub loaded_as : ModuleState → Result ModuleState → Loaded
 loaded_as s (accepted t) = record { state = t; refusal = none }
 loaded_as s (refused n) = record { state = s; refusal = n }

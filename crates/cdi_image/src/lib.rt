@@ -6,17 +6,15 @@ mod read;
 mod write;
 
 ghost use Rattle.std.specs.Prelude.{◌≡◌, length};
-ghost use Rattle.refusal.specs.Refusal.{outcome_of, buffer_after};
-ghost use Rattle.cdi_image.specs.Image.{saved, stored_loaded, loaded, loaded_as};
+ghost use Rattle.refusal.specs.Numbers.{answer, WritesIfAccepted};
+ghost use Rattle.cdi_image.specs.Image.{saved, stored_loaded, loaded};
 
-use cdi_state::{ModuleState, Stored};
-use refusal::{IMAGE_LENGTH, IMAGE_MARK, IMAGE_VERSION, INVALID, NONE, Outcome};
-
-// The bytes of an image of version 1.
-pub const IMAGE_V1_SIZE: usize = 249;
+use cdi_item::{NAME_LENGTH, ROW_LENGTH, SLOT_COUNT};
+use cdi_state::{ADDRESS_LENGTH, FIRMWARE_LENGTH, ModuleState, SERIAL_LENGTH, Stored};
+use refusal::Refusal;
 
 // An image starts with its head: the mark SWB, then the version with its high byte first.
-const MARK: [u8; 3] = [0x53, 0x57, 0x42];
+const MARK: [u8; 3] = *b"SWB";
 
 const VERSION_1: [u8; 2] = [0x00, 0x01];
 
@@ -24,99 +22,76 @@ const VERSION_AT: usize = 3;
 
 const HEAD_SIZE: usize = 5;
 
-// Where each part of the contents starts, counted from the end of the head.
+// The settings of one byte that stand side by side, items 11 to 15.
+const SINGLE_COUNT: usize = 5;
+
+// Where each part of the contents starts, counted from the end of the head: behind the part before it.
 const NAME_AT: usize = 0;
 
-const FIRMWARE_AT: usize = 17;
+const FIRMWARE_AT: usize = NAME_AT + NAME_LENGTH;
 
-const SERIAL_AT: usize = 20;
+const SERIAL_AT: usize = FIRMWARE_AT + FIRMWARE_LENGTH;
 
-const ADDRESS_AT: usize = 24;
+const ADDRESS_AT: usize = SERIAL_AT + SERIAL_LENGTH;
 
-// The settings of one byte, items 11 to 15.
-const SETTINGS_AT: usize = 28;
+const SETTINGS_AT: usize = ADDRESS_AT + ADDRESS_LENGTH;
 
-const INPUT_1_AT: usize = 33;
+const INPUT_1_AT: usize = SETTINGS_AT + SINGLE_COUNT;
 
-const INPUT_2_AT: usize = 38;
+const INPUT_2_AT: usize = INPUT_1_AT + ROW_LENGTH;
 
-const SLOTS_AT: usize = 43;
+const SLOTS_AT: usize = INPUT_2_AT + ROW_LENGTH;
 
-const INTERRUPT_MASK_AT: usize = 243;
+const INTERRUPT_MASK_AT: usize = SLOTS_AT + SLOT_COUNT * ROW_LENGTH;
+
+// The bytes of an image of version 1.
+pub const IMAGE_V1_SIZE: usize = HEAD_SIZE + INTERRUPT_MASK_AT + 1;
 
 // Writes the image of a state, which fills `image`. A refusal writes no byte of it.
 #[tactic(auto, unfolding(crate::specs::Image::saved))]
-pub fn save(state: ModuleState, image: &mut [u8]) -> Outcome
-    ensures { (result ≡ outcome_of (saved state (length image.old))) × (image.new ≡ buffer_after (saved state (length image.old)) image.old) }
+pub fn save(state: ModuleState, image: &mut [u8]) -> Result<usize, Refusal>
+    ensures { WritesIfAccepted (saved state (length image.old)) image.old image.new result }
 {
     if image.len() != IMAGE_V1_SIZE {
-        return refusal::refused(IMAGE_LENGTH);
+        return Err(Refusal::ImageLength);
     }
     if !cdi_valid::is_valid(state) {
-        return refusal::refused(INVALID);
+        return Err(Refusal::Invalid);
     }
-    write::write_image(state.stored, image);
-    Outcome {
-        refusal: NONE,
-        length: IMAGE_V1_SIZE,
-    }
-}
-
-// What came of a load: the state after it, and the number of the refusal or 0.
-#[repr(C)]
-#[derive(Clone, Copy)]
-pub struct Loaded {
-    pub state: ModuleState,
-    pub refusal: u8,
+    write::write_image(&state.stored, image);
+    Ok(IMAGE_V1_SIZE)
 }
 
 // The state with another stored part, and then powered up. Only that part is tested: after a power-up it decides whether the whole state is
-// valid. A refusal leaves the state.
-fn load_stored(state: ModuleState, stored: Stored) -> Loaded
-    ensures { result ≡ loaded_as state (stored_loaded state stored) }
+// valid.
+fn load_stored(state: ModuleState, stored: Stored) -> Result<ModuleState, Refusal>
+    ensures { answer result ≡ stored_loaded state stored }
 {
-    let working = state.working;
-    let live = state.live;
     let replaced = ModuleState {
         stored,
-        working,
-        live,
+        working: state.working,
+        live: state.live,
     };
     let after = cdi_store::powered_up(replaced);
     if !cdi_valid::is_valid(after) {
-        return Loaded {
-            state,
-            refusal: INVALID,
-        };
+        return Err(Refusal::Invalid);
     }
-    Loaded {
-        state: after,
-        refusal: NONE,
-    }
+    Ok(after)
 }
 
 // The state with what an image holds, and then powered up. The state before may be invalid; a refusal leaves it.
 #[tactic(auto, unfolding(crate::specs::Image::loaded))]
-pub fn load(state: ModuleState, image: &[u8]) -> Loaded
-    ensures { result ≡ loaded_as state (loaded state image.now) }
+pub fn load(state: ModuleState, image: &[u8]) -> Result<ModuleState, Refusal>
+    ensures { answer result ≡ loaded state image.now }
 {
     if image.len() != IMAGE_V1_SIZE {
-        return Loaded {
-            state,
-            refusal: IMAGE_LENGTH,
-        };
+        return Err(Refusal::ImageLength);
     }
     if !read::has_mark(image) {
-        return Loaded {
-            state,
-            refusal: IMAGE_MARK,
-        };
+        return Err(Refusal::ImageMark);
     }
     if !read::has_version_1(image) {
-        return Loaded {
-            state,
-            refusal: IMAGE_VERSION,
-        };
+        return Err(Refusal::ImageVersion);
     }
     load_stored(state, read::stored_in(&image[HEAD_SIZE..]))
 }

@@ -25,29 +25,23 @@ fn write_head(image: &mut [u8])
     requires { head_size ≤ length image.old }
     ensures { Put image.old 0 (mark ++ version1) head_size image.new }
 {
-    let mark = MARK;
-    let version = VERSION_1;
-    put(&mark, 0, image);
-    put(&version, VERSION_AT, image);
+    put(&MARK, 0, image);
+    put(&VERSION_1, VERSION_AT, image);
 }
 
-fn write_identity(stored: Stored, contents: &mut [u8])
+fn write_identity(stored: &Stored, contents: &mut [u8])
     requires { contents_size ≤ length contents.old }
-    ensures { Put contents.old name_at (stored.name ++ stored.firmware ++ stored.serial ++ stored.address) settings_at contents.new }
+    ensures { Put contents.old name_at (stored.now.name ++ stored.now.firmware ++ stored.now.serial ++ stored.now.address) settings_at contents.new }
 {
-    let name = stored.name;
-    let firmware = stored.firmware;
-    let serial = stored.serial;
-    let address = stored.address;
-    put(&name, NAME_AT, contents);
-    put(&firmware, FIRMWARE_AT, contents);
-    put(&serial, SERIAL_AT, contents);
-    put(&address, ADDRESS_AT, contents);
+    put(&stored.name, NAME_AT, contents);
+    put(&stored.firmware, FIRMWARE_AT, contents);
+    put(&stored.serial, SERIAL_AT, contents);
+    put(&stored.address, ADDRESS_AT, contents);
 }
 
-fn write_settings(settings: Settings, contents: &mut [u8])
+fn write_settings(settings: &Settings, contents: &mut [u8])
     requires { contents_size ≤ length contents.old }
-    ensures { Put contents.old settings_at (settings11_to15 settings ++ input_bytes (input_at settings 1) ++ input_bytes (input_at settings 2)) slots_at contents.new }
+    ensures { Put contents.old settings_at (settings11_to15 settings.now ++ input_bytes (input_at settings.now 1) ++ input_bytes (input_at settings.now 2)) slots_at contents.new }
 {
     let single = [
         settings.line_mask,
@@ -56,44 +50,37 @@ fn write_settings(settings: Settings, contents: &mut [u8])
         settings.control_source,
         settings.message_select,
     ];
-    let input_1 = settings.analog_inputs[0];
-    let input_2 = settings.analog_inputs[1];
-    let row_1 = input_1.bytes();
-    let row_2 = input_2.bytes();
+    let [input_1, input_2] = settings.analog_inputs;
     put(&single, SETTINGS_AT, contents);
-    put(&row_1, INPUT_1_AT, contents);
-    put(&row_2, INPUT_2_AT, contents);
+    put(&<[u8; ROW_LENGTH]>::from(input_1), INPUT_1_AT, contents);
+    put(&<[u8; ROW_LENGTH]>::from(input_2), INPUT_2_AT, contents);
 }
 
-fn write_slots(slots: [Slot; SLOT_COUNT], contents: &mut [u8])
+fn write_slots(slots: &[Slot; SLOT_COUNT], contents: &mut [u8])
     requires { contents_size ≤ length contents.old }
-    ensures { Put contents.old slots_at (flat_map slot_bytes slots) interrupt_mask_at contents.new }
+    ensures { Put contents.old slots_at (flat_map slot_bytes slots.now) interrupt_mask_at contents.new }
 {
-    let mut i: usize = 0;
-    while i < SLOT_COUNT {
-        let slot = slots[i];
-        let row = slot.bytes();
+    for (i, slot) in slots.iter().enumerate() {
+        let row = <[u8; ROW_LENGTH]>::from(*slot);
         put(&row, SLOTS_AT + ROW_LENGTH * i, contents);
-        i += 1;
     }
 }
 
 // Writes the contents over the front of what stands behind the head.
-fn write_contents(stored: Stored, contents: &mut [u8])
+fn write_contents(stored: &Stored, contents: &mut [u8])
     requires { contents_size ≤ length contents.old }
-    ensures { Put contents.old 0 (contents_of stored) contents_size contents.new }
+    ensures { Put contents.old 0 (contents_of stored.now) contents_size contents.new }
 {
-    let slots = stored.slots;
     write_identity(stored, contents);
-    write_settings(stored.settings, contents);
-    write_slots(slots, contents);
+    write_settings(&stored.settings, contents);
+    write_slots(&stored.slots, contents);
     contents[INTERRUPT_MASK_AT] = stored.settings.interrupt_mask;
 }
 
 // Writes an image of version 1 over the front of a buffer.
-pub(crate) fn write_image(stored: Stored, image: &mut [u8])
+pub(crate) fn write_image(stored: &Stored, image: &mut [u8])
     requires { image_v1_size ≤ length image.old }
-    ensures { Put image.old 0 (image_of stored) image_v1_size image.new }
+    ensures { Put image.old 0 (image_of stored.now) image_v1_size image.new }
 {
     write_head(image);
     write_contents(stored, &mut image[HEAD_SIZE..]);

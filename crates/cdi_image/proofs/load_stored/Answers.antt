@@ -5,7 +5,7 @@ use Rattle.cdi_state.specs.declared.ModuleState.{ModuleState}
 use Rattle.cdi_valid.specs.Valid.{valid_stored, is_valid}
 use Rattle.cdi_valid.proofs.Laws.{stored-decides}
 use Rattle.cdi_store.specs.Store.{state_at_power_up}
-use Rattle.cdi_image.specs.Image.{with_stored, loaded_as}
+use Rattle.cdi_image.specs.Image.{with_stored}
 use Rattle.cdi_image.proofs.load_stored.Goals as goal
 
 pub returns-then-not-is_valid : goal.returns-then-not-is_valid
@@ -18,4 +18,4 @@ pub returns : goal.returns
 returns c =
     let after = state_at_power_up (with_stored c.args.state c.args.stored) in
     let decides : valid_stored c.args.stored ≡ c.is_valid.result = sym (c.is_valid.ensures ∙ ap is_valid c.powered_up-after.ensures ∙ stored-decides after refl refl) in
-    ap (λ (t : ModuleState). loaded_as c.args.state (accepted t)) c.powered_up-after.ensures ∙ rw (decides ∙ c.if-not-is_valid.false)
+    ap (λ (t : ModuleState). accepted t) c.powered_up-after.ensures ∙ rw (decides ∙ c.if-not-is_valid.false)

@@ -1,11 +1,8 @@
--- Each row makes its slot, so the slots made and those of the rows left are always all the slots.
-use Rattle.std.proofs.Common.{◌-◌, ◌*◌, ◌≡◌, ◌≤◌, ◌++◌, length, take, drop}
-use Rattle.cdi_image.specs.Image.{slots_in}
+-- The slots so far are made of their rows.
+use Rattle.std.proofs.Common.{◌≡◌, ℕ, ◌*◌, ◌<◌, get_or, length}
+use Rattle.logic.specs.Lists.{part}
+use Rattle.cdi_state.specs.State.{slot_in, no_slot}
 use Rattle.cdi_image.proofs.read.slots_in.Given as goal
 
 abbrev pub invariant-loop-i : goal.invariant-loop-i
-invariant-loop-i l =
-    (l.i ≤ 40) × (length l.slots ≡ 40) × (slots_in 40 l.rows ≡ take l.i l.slots ++ slots_in (40 - l.i) (drop (5 * l.i) l.rows))
-
-abbrev pub decreases-loop-i : goal.decreases-loop-i
-decreases-loop-i l = 40 - l.i
+invariant-loop-i l = (length l.slot-items ≡ 40) × ((k : ℕ) → k < l.i → get_or l.slot-items k no_slot ≡ slot_in (part (5 * k) 5 l.rows))

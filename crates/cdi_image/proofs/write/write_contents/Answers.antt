@@ -21,7 +21,7 @@ in_parts t = simp append_assoc
 
 pub returns : goal.returns
 returns c =
-    let q = c.args.stored in
+    let q = c.args.stored.now in
     let s = c.args.contents.now in
     let t = c.write_slots.new.contents in
     let last = q.settings.interrupt_mask in

@@ -6,7 +6,7 @@ use Rattle.cdi_image.proofs.write.write_identity.Goals as goal
 
 pub returns : goal.returns
 returns c =
-    let q = c.args.stored in
+    let q = c.args.stored.now in
     let long1 : length q.name ≡ 17 = search rules in
     let long2 : length q.firmware ≡ 3 = search rules in
     let long3 : length q.serial ≡ 4 = search rules in

@@ -9,14 +9,14 @@ use Rattle.cdi_image.proofs.write.write_settings.Goals as goal
 
 pub returns : goal.returns
 returns c =
-    let x = c.args.settings in
+    let x = c.args.settings.now in
     let t1 = c.put.new.buffer in
     let t2 = c.put-2.new.buffer in
     let t3 = c.put-3.new.buffer in
-    let made1 : c.bytes-row_1.result ≡ input_bytes (input_at x 1) = c.bytes-row_1.ensures in
-    let made2 : c.bytes-row_2.result ≡ input_bytes (input_at x 2) = c.bytes-row_2.ensures in
-    let long1 : length c.bytes-row_1.result ≡ 5 = search rules in
-    let long2 : length c.bytes-row_2.result ≡ 5 = search rules in
+    let made1 : c.from.result ≡ input_bytes (input_at x 1) = c.from.ensures in
+    let made2 : c.from-2.result ≡ input_bytes (input_at x 2) = c.from-2.ensures in
+    let long1 : length c.from.result ≡ 5 = search rules in
+    let long2 : length c.from-2.result ≡ 5 = search rules in
     let single : Put c.args.contents.now 28 (settings11_to15 x) 33 t1 = record { ends = refl; stored = c.put.ensures } in
     let input1 : Put t1 33 (input_bytes (input_at x 1)) 38 t2 = record {
       ends = omega (arith, ap length made1, long1);
