@@ -1,4 +1,5 @@
 // The payload of a command by the parts that it carries: document 01, "Frame" (payloads).
+// Each function writes one layout of the eight bytes; a single one with parts left out would test for each part.
 ghost use Rattle.std.specs.Prelude.{◌≡◌, ◌≤◌, [], ◌∷◌, min};
 ghost use Rattle.cdi_command.specs.Payload.{index_byte, value_in};
 
