@@ -1,3 +1,1 @@
-pub mod ByFields
 pub mod Laws
-pub mod Determined

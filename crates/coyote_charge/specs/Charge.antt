@@ -8,13 +8,6 @@ use Rattle.coyote_packet.specs.Layout.{no_ack_data_type, sequences, Message, add
 use Rattle.coyote_packet.specs.Read.{read_packet}
 use Rattle.coyote_encode.specs.Encode.{encode}
 use Rattle.coyote_charge.specs.declared.Charge.{Charge}
-use Rattle.coyote_charge.specs.declared.Imported.{Imported}
-use Rattle.coyote_charge.specs.declared.Imported.TheVariants.{Accepted, Refused}
-
--- each case of what was imported: the charge, or the number of the refusal
-abbrev pub imported_result : Imported → Result Charge
-imported_result (Accepted c) = accepted c
-imported_result (Refused n) = refused n
 
 -- an input's number and a readout as a charge
 abbrev pub charge : (input readout : ℕ) → Charge

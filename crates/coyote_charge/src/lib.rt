@@ -3,15 +3,13 @@
 #![tactic(auto)]
 
 ghost use Rattle.std.specs.Prelude.{◌≡◌, ◌+◌, ◌≤◌, length};
-ghost use Rattle.refusal.specs.Refusal.{outcome_of, buffer_after};
-ghost use Rattle.coyote_charge.specs.Charge.{imported_result, export_charge, charge_from, import_charge};
+ghost use Rattle.refusal.specs.Numbers.{answer, WritesIfAccepted};
+ghost use Rattle.coyote_charge.specs.Charge.{export_charge, charge_from, import_charge};
 
 use cdi_item::InputNumber;
-use coyote_packet::{ACK, NO_ACK_DATA, SEQUENCES};
-use refusal::{NONE, Outcome, PACKET_CONTENT};
-
-// How many bytes of data a charge has: the input's number and the readout, high byte first.
-const CHARGE_LENGTH: usize = 3;
+use coyote_encode::Route;
+use coyote_packet::{NO_ACK_DATA, Packet, SEQUENCES};
+use refusal::Refusal;
 
 // An analog input and its 16-bit readout.
 #[derive(Clone, Copy)]
@@ -20,85 +18,48 @@ pub struct Charge {
     pub readout: u16,
 }
 
-// What was imported from a block.
-#[derive(Clone, Copy)]
-pub enum Imported {
-    Accepted(Charge),
-    // The number of the refusal.
-    Refused(u8),
-}
-
-// Writes the charge of an input as NoAckData with this sequence number, from the source to the targets, which are bytes: group and address in
-// turn.
+// Writes the charge of an input as NoAckData with this sequence number.
 #[tactic(auto, unfolding(crate::specs::Charge::export_charge))]
 pub fn export_charge(
     sequence: u8,
-    group: u8,
-    address: u8,
-    targets: &[u8],
+    route: Route,
     charge: Charge,
     packet: &mut [u8],
-) -> Outcome
-    ensures { (result ≡ outcome_of (export_charge sequence group address targets.now charge (length packet.old)))
-        × (packet.new ≡ buffer_after (export_charge sequence group address targets.now charge (length packet.old)) packet.old) }
+) -> Result<usize, Refusal>
+    ensures { WritesIfAccepted (export_charge sequence route.entry.group route.entry.address route.entry.targets.now charge (length packet.old)) packet.old packet.new result }
 {
     let input = charge.input.0;
-    if sequence >= SEQUENCES {
-        return refusal::refused(PACKET_CONTENT);
+    if sequence >= SEQUENCES || !cdi_item::is_input_number(input) {
+        return Err(Refusal::PacketContent);
     }
-    if !cdi_item::is_input_number(input) {
-        return refusal::refused(PACKET_CONTENT);
-    }
-    let content = [
-        input,
-        (charge.readout / 256) as u8,
-        (charge.readout % 256) as u8,
-    ];
-    coyote_encode::encode_addressed(
-        NO_ACK_DATA + sequence,
-        group,
-        address,
-        targets,
-        &content,
-        packet,
-    )
+    let [high, low] = charge.readout.to_be_bytes();
+    let content = [input, high, low];
+    coyote_encode::encode_addressed(NO_ACK_DATA + sequence, route, &content, packet)
 }
 
-// The charge in data of so many bytes from a place on.
-fn read_charge(block: &[u8], start: usize, size: usize) -> Imported
+// The charge in data of so many bytes from a place on: the input's number and the readout, high byte first.
+fn read_charge(block: &[u8], start: usize, size: usize) -> Result<Charge, Refusal>
     requires { start + size ≤ length block.now }
-    ensures { imported_result result ≡ charge_from block.now start size }
+    ensures { answer result ≡ charge_from block.now start size }
 {
-    if size != CHARGE_LENGTH {
-        return Imported::Refused(PACKET_CONTENT);
+    match &block[start..start + size] {
+        [input, high, low] if cdi_item::is_input_number(*input) => Ok(Charge {
+            input: InputNumber(*input),
+            readout: u16::from_be_bytes([*high, *low]),
+        }),
+        _ => Err(Refusal::PacketContent),
     }
-    let input = block[start];
-    if !cdi_item::is_input_number(input) {
-        return Imported::Refused(PACKET_CONTENT);
-    }
-    Imported::Accepted(Charge {
-        input: InputNumber(input),
-        readout: 256 * block[start + 1] as u16 + block[start + 2] as u16,
-    })
 }
 
 // Reads a block as the packet of a charge.
-pub fn import_charge(block: &[u8]) -> Imported
-    ensures { imported_result result ≡ import_charge block.now }
+#[tactic(auto, unfolding(crate::specs::Charge::import_charge))]
+pub fn import_charge(block: &[u8]) -> Result<Charge, Refusal>
+    ensures { answer result ≡ import_charge block.now }
 {
-    let fields = coyote_fields::decode_fields(block);
-    if fields.refusal != NONE {
-        return Imported::Refused(fields.refusal);
+    match coyote_decode::decode(block)? {
+        Packet::NoAckData(sent) => {
+            read_charge(block, sent.data_start as usize, sent.data_length as usize)
+        }
+        _ => Err(Refusal::PacketContent),
     }
-    if fields.kind < NO_ACK_DATA {
-        return Imported::Refused(PACKET_CONTENT);
-    }
-    if fields.kind >= ACK {
-        return Imported::Refused(PACKET_CONTENT);
-    }
-    read_charge(
-        block,
-        fields.data_start as usize,
-        fields.data_length as usize,
-    )
 }
