@@ -1,9 +1,10 @@
 // The entries of include/coyote.h, which says what each reads and writes. No enum crosses the C boundary. `coyote_exports` has each under
 // the name that C calls.
-#![tactic(auto)]
+#![tactic(auto, using(refusal::proofs::Told::outcome_told))]
 
 ghost use Rattle.std.specs.Prelude.{◌≡◌, length};
 ghost use Rattle.refusal.specs.Refusal.{outcome_of, buffer_after};
+ghost use Rattle.refusal.specs.Numbers.{answer};
 ghost use Rattle.coyote_packet.specs.Layout.{addressed, read_mem, success, failure};
 ghost use Rattle.coyote_packet.specs.Read.{read_packet};
 ghost use Rattle.coyote_encode.specs.Encode.{encode};
@@ -12,17 +13,36 @@ ghost use Rattle.coyote_fields.specs.Fields.{fields_of};
 ghost use Rattle.coyote_c.specs.Fields.{charge_fields};
 
 use cdi_item::InputNumber;
-use coyote_charge::{Charge, Imported};
+use coyote_charge::Charge;
+use coyote_encode::Route;
 use coyote_fields::PacketFields;
-use refusal::{NONE, Outcome};
+use refusal::{NONE, Outcome, Refusal};
 
 // What was imported from a block: coyote_charge of the header.
 #[repr(C)]
-#[derive(Clone, Copy)]
+#[derive(Clone, Copy, Default)]
 pub struct ChargeFields {
     pub refusal: u8,
     pub input: u8,
     pub readout: u16,
+}
+
+impl From<Result<Charge, Refusal>> for ChargeFields {
+    ghost from_gives = { λ imported fields. fields ≡ charge_fields (answer imported) };
+
+    fn from(imported: Result<Charge, Refusal>) -> ChargeFields {
+        match imported {
+            Ok(found) => ChargeFields {
+                refusal: NONE,
+                input: found.input.0,
+                readout: found.readout,
+            },
+            Err(refusal) => ChargeFields {
+                refusal: refusal.number(),
+                ..ChargeFields::default()
+            },
+        }
+    }
 }
 
 // Reads a block as one packet.
@@ -44,7 +64,12 @@ pub fn coyote_encode_addressed(
     ensures { (result ≡ outcome_of (encode (addressed kind group address targets.now content.now) (length packet.old)))
         × (packet.new ≡ buffer_after (encode (addressed kind group address targets.now content.now) (length packet.old)) packet.old) }
 {
-    coyote_encode::encode_addressed(kind, group, address, targets, content, packet)
+    let route = Route {
+        group,
+        address,
+        targets,
+    };
+    coyote_encode::encode_addressed(kind, route, content, packet).into()
 }
 
 // Writes ReadMem.
@@ -52,7 +77,7 @@ pub fn coyote_encode_read_memory(space: u8, address: u16, size: u16, packet: &mu
     ensures { (result ≡ outcome_of (encode (read_mem space address size) (length packet.old)))
         × (packet.new ≡ buffer_after (encode (read_mem space address size) (length packet.old)) packet.old) }
 {
-    coyote_encode::encode_read_memory(space, address, size, packet)
+    coyote_encode::encode_read_memory(space, address, size, packet).into()
 }
 
 // Writes Success.
@@ -60,7 +85,7 @@ pub fn coyote_encode_success(request: u8, content: &[u8], packet: &mut [u8]) -> 
     ensures { (result ≡ outcome_of (encode (success request content.now) (length packet.old)))
         × (packet.new ≡ buffer_after (encode (success request content.now) (length packet.old)) packet.old) }
 {
-    coyote_encode::encode_success(request, content, packet)
+    coyote_encode::encode_success(request, content, packet).into()
 }
 
 // Writes Failure.
@@ -68,7 +93,7 @@ pub fn coyote_encode_failure(request: u8, code: u8, packet: &mut [u8]) -> Outcom
     ensures { (result ≡ outcome_of (encode (failure request code) (length packet.old)))
         × (packet.new ≡ buffer_after (encode (failure request code) (length packet.old)) packet.old) }
 {
-    coyote_encode::encode_failure(request, code, packet)
+    coyote_encode::encode_failure(request, code, packet).into()
 }
 
 // Writes the charge of an analog input as NoAckData.
@@ -88,24 +113,17 @@ pub fn coyote_export_charge(
         input: InputNumber(input),
         readout,
     };
-    coyote_charge::export_charge(sequence, group, address, targets, exported, packet)
+    let route = Route {
+        group,
+        address,
+        targets,
+    };
+    coyote_charge::export_charge(sequence, route, exported, packet).into()
 }
 
 // Reads a block as the packet of a charge.
 pub fn coyote_import_charge(block: &[u8]) -> ChargeFields
     ensures { result ≡ charge_fields (import_charge block.now) }
 {
-    let imported = coyote_charge::import_charge(block);
-    match imported {
-        Imported::Refused(number) => ChargeFields {
-            refusal: number,
-            input: 0,
-            readout: 0,
-        },
-        Imported::Accepted(found) => ChargeFields {
-            refusal: NONE,
-            input: found.input.0,
-            readout: found.readout,
-        },
-    }
+    coyote_charge::import_charge(block).into()
 }
