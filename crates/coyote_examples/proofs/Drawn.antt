@@ -7,26 +7,24 @@ use mathlib.Core.List.{List, [], ◌∷◌}
 use native.Mathlib.Omega.{arith}
 use borrow.Author.Tests.{le-leb}
 use lib.ListN.{length, get_or, set}
+use Rattle.std.specs.Prelude.{Ok}
 use Rattle.logic.specs.Lists.{Bytes}
 use Rattle.logic.proofs.Bytes.{bytes_of}
 use Rattle.refusal.specs.Refusal.{accepted}
+use Rattle.refusal.proofs.Determined.{answer_determined}
 use Rattle.checksum.specs.Checksum.{byte_sum, sum_holds}
 use Rattle.checksum.proofs.Laws.{written_passes, passes_as_written, change_noticed}
 use Rattle.coyote_packet.specs.declared.Packet.TheVariants.{AckData, Ack, Success}
-use Rattle.coyote_packet.specs.declared.Decoded.TheVariants as decoded
 use Rattle.coyote_packet.specs.Layout.{Message, addressed, read_mem, success, failure, message_bytes, packet_bytes, payload_of, targets_end, targets_before, fit_targets, is_accepted}
 use Rattle.coyote_packet.specs.Read.{read_addressed, read_success, read_payload, read_packet, read_message}
 use Rattle.coyote_packet.specs.Laws.{WholeTargets, LaidOut}
-use Rattle.coyote_packet.proofs.Determined.{decoded_determined}
 use Rattle.coyote_packet.proofs.ReadBack.{read_back}
 use Rattle.coyote_packet.proofs.Accepted.{accepted_laid_out}
 use Rattle.coyote_packet.proofs.Exact.{read-back_only, group_lost}
 use Rattle.coyote_packet.proofs.Whole.{fit_is_whole, whole_is_fit}
 use Rattle.coyote_encode.specs.Encode.{encode}
 use Rattle.coyote_encode.proofs.Laws.{written_is_read, read_is_written}
-use Rattle.coyote_charge.specs.declared.Imported.TheVariants as imported
 use Rattle.coyote_charge.specs.Charge.{charge, import_charge}
-use Rattle.coyote_charge.proofs.Determined.{imported_determined}
 use Rattle.coyote_charge.proofs.Laws.{export_is-imported, import_was_exported}
 use Rattle.coyote_examples.specs.Examples.{to_one, unwritten}
 use Rattle.coyote_examples.specs.Sentences.{
@@ -179,8 +177,8 @@ sentences_hold = record {
   ack_places = ack_laid_out.places-within;
   answer-places = answer_laid_out.places-within;
   answer_small = answer_laid_out.numbers_small;
-  one_answer = λ r e. decoded_determined r (decoded.Accepted (AckData hello_fields)) (e ∙ hello-read);
-  one-charge = λ r e. imported_determined r (imported.Accepted (charge 2 57016)) (e ∙ charge-imported);
+  one_answer = λ r e. answer_determined r (Ok (AckData hello_fields)) (e ∙ hello-read);
+  one-charge = λ r e. answer_determined r (Ok (charge 2 57016)) (e ∙ charge-imported);
   group_80 = group_lost 0x10 0x01 0x02 (0x01 ∷ 0x03 ∷ 0x80 ∷ 0x03 ∷ []) (0x07 ∷ []) 1 group-bytes (omega arith) refl;
   no_data = no_data;
   no_single_byte = no_single_byte;

@@ -1,19 +1,20 @@
 -- Sentences about literal packets. Each is drawn from a law of the crates below and is stated in numbers, so a law that is made weaker no longer
 -- gives its sentence.
-use Rattle.std.specs.Prelude.{ℕ, ◌+◌, ◌*◌, ◌<◌, ◌≤◌, ◌≡◌, true, false, List, [], ◌∷◌, length, take, set}
+use Rattle.std.specs.Prelude.{ℕ, ◌+◌, ◌*◌, ◌<◌, ◌≤◌, ◌≡◌, true, false, List, [], ◌∷◌, length, take, set, Ok}
+use Rattle.std.specs.Prelude as std
+use Rattle.refusal.specs.declared.Refusal.{Refusal}
 use Rattle.refusal.specs.Refusal.{accepted, buffer_after}
+use Rattle.refusal.specs.Numbers.{answer}
 use Rattle.checksum.specs.Checksum.{summed, sum_holds}
 use Rattle.coyote_packet.specs.declared.Addressed.{Addressed}
 use Rattle.coyote_packet.specs.declared.Succeeded.{Succeeded}
+use Rattle.coyote_packet.specs.declared.Packet.{Packet}
 use Rattle.coyote_packet.specs.declared.Packet.TheVariants.{AckData}
-use Rattle.coyote_packet.specs.declared.Decoded.{Decoded}
-use Rattle.coyote_packet.specs.declared.Decoded.TheVariants as decoded
 use Rattle.coyote_packet.specs.Layout.{Message, addressed, read_mem, success, failure, message_bytes, fit_targets, is_accepted}
-use Rattle.coyote_packet.specs.Read.{decoded_result, read_packet, read_message}
+use Rattle.coyote_packet.specs.Read.{read_packet, read_message}
 use Rattle.coyote_encode.specs.Encode.{encode}
-use Rattle.coyote_charge.specs.declared.Imported.{Imported}
-use Rattle.coyote_charge.specs.declared.Imported.TheVariants as imported
-use Rattle.coyote_charge.specs.Charge.{imported_result, charge, export_charge, import_charge}
+use Rattle.coyote_charge.specs.declared.Charge.{Charge}
+use Rattle.coyote_charge.specs.Charge.{charge, export_charge, import_charge}
 use Rattle.coyote_examples.specs.Examples.{to_one, unwritten}
 
 -- 003's "Hello", from 1:2 to 1:3, and where its parts lie
@@ -85,8 +86,8 @@ pub record Sentences : Type 0 where
   pub answer-places : 7 + 2 ≤ 11
   pub answer_small : (7 ≤ 41) × (2 ≤ 1023)
   -- the contracts of reader and import leave one answer each
-  pub one_answer : (r : Decoded) → decoded_result r ≡ read_packet hello_block → r ≡ decoded.Accepted (AckData hello_fields)
-  pub one-charge : (r : Imported) → imported_result r ≡ import_charge charge_block → r ≡ imported.Accepted (charge 2 57016)
+  pub one_answer : (r : std.Result Packet Refusal) → answer r ≡ read_packet hello_block → r ≡ Ok (AckData hello_fields)
+  pub one-charge : (r : std.Result Charge Refusal) → answer r ≡ import_charge charge_block → r ≡ Ok (charge 2 57016)
   -- a packet to a group 80 is not read back, nor is one of what no writer accepts
   pub group_80 : read_message (message_bytes to_group80) ≡ accepted to_group80 → ⊥
   pub no_data : read_message (message_bytes without_data) ≡ accepted without_data → ⊥
