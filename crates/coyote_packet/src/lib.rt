@@ -41,12 +41,8 @@ pub const SUM_START: usize = 1;
 pub const SOURCE_LENGTH: usize = 2;
 // EOA and DataLen, which are between the targets and the data.
 pub const TARGETS_TAIL: usize = 3;
-// The payload of a ReadMem, what is before the data in that of a Success, and the payload of a Failure.
-pub const READ_MEM_LENGTH: usize = 5;
-
+// What is before the data in the payload of a Success.
 pub const SUCCESS_HEAD: usize = 3;
-
-pub const FAILURE_LENGTH: usize = 4;
 
 // 003's EOA: what ends the targets, where a target's group would be.
 pub const TARGETS_END: u8 = 0x80;
