@@ -15,8 +15,8 @@ use Rattle.cdi_item.specs.Items.{item_of}
 use Rattle.cdi_command.specs.declared.Index.{Index}
 use Rattle.cdi_command.specs.declared.Command.{Command}
 use Rattle.cdi_command.specs.declared.Command.TheVariants.{Read, ReadIndexed, ReadNv, ReadNvIndexed, Write, WriteIndexed, Program, ProgramIndexed, SetDefault, EraseAll}
-use Rattle.cdi_command.specs.Command.{read, read_nv, write, set_default, has_no_item, select, command_on, validate_payload}
-use Rattle.cdi_command.specs.Check.{is_read_code, index_of, command_about}
+use Rattle.cdi_command.specs.Command.{read, read_nv, write, set_default, payload_code, select, command_on, validate_payload}
+use Rattle.cdi_command.specs.Check.{is_read_code, bare_command, index_of, command_in}
 use Rattle.cdi_command.specs.Payload.{command_payload, ack_response, no_error}
 use Rattle.cdi_command.specs.Kind.{is_read}
 use Rattle.cdi_command.proofs.Accepted.{accepted_well_formed, accepted-payload}
@@ -57,11 +57,11 @@ module _ (sent : List ℕ) (x : Item) where
       rw (← accepted-payload sent (ReadNvIndexed x i) is) (record { listed = w.0.listed; some = omega arith; few = omega arith; as_read = λ p. refl })
 
   -- what is said of a command, said of the one that the payload is
-  as_about : (c : Command) → command_about x sent ≡ c → validate_payload sent ≡ accepted (command_about x sent) → (validate_payload sent ≡ accepted c → Reads x c sent)
-      → Reads x (command_about x sent) sent
+  as_about : (c : Command) → command_in x sent ≡ c → validate_payload sent ≡ accepted (command_in x sent) → (validate_payload sent ≡ accepted c → Reads x c sent)
+      → Reads x (command_in x sent) sent
   as_about c e is r = subst (λ (d : Command). Reads x d sent) (sym e) (r (is ∙ ap accepted e))
 
-  pub reads-value : validate_payload sent ≡ accepted (command_about x sent) → is_read_code (get_or sent 0 0) ≡ true → Reads x (command_about x sent) sent
+  pub reads-value : validate_payload sent ≡ accepted (command_in x sent) → is_read_code (get_or sent 0 0) ≡ true → Reads x (command_in x sent) sent
   unfolding command_on select
   reads-value is reads =
       either (eqb (get_or sent 0 0) read) (eqb (get_or sent 0 0) read_nv) reads
@@ -74,14 +74,12 @@ module _ (sent : List ℕ) (x : Item) where
       by_cases x.indexed (λ i. as_about (ReadNvIndexed x (index_of x (get_or sent 2 0))) (rw (e, i)) is (read_nv-row (index_of x (get_or sent 2 0))))
       (λ i. as_about (ReadNv x) (rw (e, i)) is read_nv-plain))
 
-  other-command : is_read_code (get_or sent 0 0) ≡ false → is_read (command_about x sent) ≡ false
+  other-command : is_read_code (get_or sent 0 0) ≡ false → is_read (command_in x sent) ≡ false
   unfolding command_on select
   other-command other =
       let p = neither (eqb (get_or sent 0 0) read) (eqb (get_or sent 0 0) read_nv) other in
-      by_cases (has_no_item (get_or sent 0 0)) (λ t. rw t (by_cases (eqb (get_or sent 0 0) set_default) (λ u. rw u) (λ u. rw u)))
-      (λ f. rw f
-      (by_cases x.indexed (λ i. rw (i, p.0, p.1) (by_cases (eqb (get_or sent 0 0) write) (λ u. rw u) (λ u. rw u)))
-      (λ i. rw (i, p.0, p.1) (by_cases (eqb (get_or sent 0 0) write) (λ u. rw u) (λ u. rw u)))))
+      by_cases x.indexed (λ i. rw (i, p.0, p.1) (by_cases (eqb (get_or sent 0 0) write) (λ u. rw u) (λ u. rw u)))
+      (λ i. rw (i, p.0, p.1) (by_cases (eqb (get_or sent 0 0) write) (λ u. rw u) (λ u. rw u)))
 
 -- another command: its response has two bytes and the payload again
 echoed : (c : Command) (p : List ℕ) → is_read c ≡ false → read_payload c p ≡ read_as (ack_response ∷ no_error ∷ command_payload c) no_value 2 p
@@ -97,9 +95,16 @@ echoed (ProgramIndexed x i v) p e = refl
 echoed SetDefault p e = refl
 echoed EraseAll p e = refl
 
-pub as_echo_lem : (sent p : List ℕ) (x : Item) → validate_payload sent ≡ accepted (command_about x sent) → is_read_code (get_or sent 0 0) ≡ false
-    → read_payload (command_about x sent) p ≡ read_as (ack_response ∷ no_error ∷ sent) no_value 2 p
-as_echo_lem sent p x is other =
-    let c = command_about x sent in
-    echoed c p (other-command sent x other) ∙
-    ap (λ (l : List ℕ). read_as (ack_response ∷ no_error ∷ l) no_value 2 p) (accepted-payload sent c is)
+module _ (sent p : List ℕ) where
+  as_echo_of : (c : Command) → validate_payload sent ≡ accepted c → is_read c ≡ false → read_payload c p ≡ read_as (ack_response ∷ no_error ∷ sent) no_value 2 p
+  as_echo_of c is other = echoed c p other ∙ ap (λ (l : List ℕ). read_as (ack_response ∷ no_error ∷ l) no_value 2 p) (accepted-payload sent c is)
+
+  -- on an item
+  pub item_echo : (x : Item) → validate_payload sent ≡ accepted (command_in x sent) → is_read_code (get_or sent 0 0) ≡ false
+      → read_payload (command_in x sent) p ≡ read_as (ack_response ∷ no_error ∷ sent) no_value 2 p
+  item_echo x is other = as_echo_of (command_in x sent) is (other-command sent x other)
+
+  -- and on none
+  pub bare_echo : validate_payload sent ≡ accepted (bare_command (payload_code sent))
+      → read_payload (bare_command (payload_code sent)) p ≡ read_as (ack_response ∷ no_error ∷ sent) no_value 2 p
+  bare_echo is = as_echo_of (bare_command (payload_code sent)) is (by_cases (eqb (payload_code sent) set_default) (λ u. rw u) (λ u. rw u))

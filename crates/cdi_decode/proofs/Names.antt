@@ -1,6 +1,6 @@
 -- The place of the first byte of a name that may not follow, and when a name has ended.
 -- Assumes nothing.
-use Prim.Native.Nat.{ℕ, zero, suc, ◌+◌, ◌-◌, ◌<◌, ◌≤◌}
+use Prim.Native.Nat.{ℕ, zero, suc, ◌+◌, ◌-◌, ◌<◌, ◌≤◌, min}
 use mathlib.Core.Path.{◌≡◌, refl, sym, ap, ◌∙◌}
 use mathlib.Core.Bool.{Bool, true, false, not, ◌&&◌, ◌||◌, and-eq-true_iff, or-false, or-true}
 use mathlib.Core.List.{List, [], ◌∷◌, ◌++◌, append-nil}
@@ -27,30 +27,31 @@ zeros-left zero (suc n) h = refl
 zeros-left (suc k) (suc n) h = zeros-left k n (omega arith)
 
 -- one byte more among those that are looked at
-one-taken : (v : List ℕ) (i : ℕ) → i < length v → has_zero (take (suc i) v) ≡ has_zero (take i v) || eqb (get_or v i 0) 0
+pub one-taken : (v : List ℕ) (i : ℕ) → i < length v → has_zero (take (suc i) v) ≡ has_zero (take i v) || eqb (get_or v i 0) 0
 one-taken v i h = ap has_zero (take-suc v i 0 h) ∙ zero_append (take i v) (get_or v i 0 ∷ []) ∙ rw (or-false (eqb (get_or v i 0) 0))
 
 pub zero_taken : (v : List ℕ) (i : ℕ) → i < length v → get_or v i 0 ≡ 0 → has_zero (take (suc i) v) ≡ true
 zero_taken v i h e = one-taken v i h ∙ rw (eq-eqb (get_or v i 0) 0 e) (or-true (has_zero (take i v)))
 
-pub one-other : (v : List ℕ) (i : ℕ) → i < length v → has_zero (take i v) ≡ false → (get_or v i 0 ≡ 0 → ⊥) → has_zero (take (i + 1) v) ≡ false
-one-other v i h none other = rw add-one (one-taken v i h ∙ rw (none, ne_eqb (get_or v i 0) 0 other))
-
--- a name without a byte has not ended
-pub no_bytes : (x : Item) → x.code ≡ name → (v : List ℕ) → length v ≡ 0 → is_ended x v ≡ false
-no_bytes x is [] h = rw is
-no_bytes x is (b ∷ v) h = absurd (omega arith)
+-- bytes none of which is a 00
+pub no_zeros : (v : List ℕ) (i : ℕ) → i ≤ length v → ((k : ℕ) → k < i → get_or v k 0 ≡ 0 → ⊥) → has_zero (take i v) ≡ false
+no_zeros v zero h none = refl
+no_zeros v (suc i) h none = one-taken v i h ∙ rw (no_zeros v i (omega arith) (λ k l. none k (omega arith)), ne_eqb (get_or v i 0) 0 (none i (omega arith)))
 
 -- where each byte may follow, only the last can be a 00
+pub unended_before : (x : Item) → x.code ≡ name → (v : List ℕ) → 1 ≤ length v → place_in_value x v ≡ length v → has_zero (take (length v - 1) v) ≡ false
+unended_before x is v h e =
+    let n = length v - 1 in
+    let l : n < length v = omega arith in
+    let follows = first_below (length v) (λ i. may_follow_in x (take i v) (get_or v i 0)) n (rw e l) in
+    let unended : not (is_ended x (take n v)) ≡ true = ((and-eq-true_iff _ _).0 (sym (asked x v n l) ∙ follows)).0 in
+    not-true _ (rw is at unended)
+
 pub ends_last : (x : Item) → x.code ≡ name → (v : List ℕ) → 1 ≤ length v → place_in_value x v ≡ length v → is_ended x v ≡ eqb (get_or v (length v - 1) 0) 0
 ends_last x is v h e =
     let n = length v - 1 in
-    let l : n < length v = omega arith in
     let all : length v ≤ suc n = omega arith in
-    let follows = first_below (length v) (λ i. may_follow_in x (take i v) (get_or v i 0)) n (rw e l) in
-    let unended : not (is_ended x (take n v)) ≡ true = ((and-eq-true_iff _ _).0 (sym (asked x v n l) ∙ follows)).0 in
-    let none : has_zero (take n v) ≡ false = not-true _ (rw is at unended) in
-    rw is (sym (ap has_zero (take_all (suc n) v all)) ∙ one-taken v n l ∙ rw none)
+    rw is (sym (ap has_zero (take_all (suc n) v all)) ∙ one-taken v n (omega arith) ∙ rw (unended_before x is v h e))
 
 module _ (x : Item) (is : x.code ≡ name) (long : x.length ≡ name_length) (v : List ℕ) where
   name-held : (i : ℕ) → i < length v → held_up_to x v i ≡ has_zero (take (suc i) v ++ drop (suc i) (replicate name_length 0))
@@ -101,3 +102,19 @@ module _ (x : Item) (is : x.code ≡ name) (long : x.length ≡ name_length) (v 
   at-end k none =
       first_is (length v) (length v) _ (omega arith) (before (length v) (omega arith) k (rw (take_all (length v) v (omega arith)) none))
       (λ l. absurd (omega arith))
+
+  -- the place, from the first 00
+  pub first_zero : (i : ℕ) → i < length v → i < 17 → get_or v i 0 ≡ 0 → ((k : ℕ) → k < i → get_or v k 0 ≡ 0 → ⊥) → place_in_value x v ≡ i + 1
+  first_zero i h k e none = at_zero i h (omega arith) (no_zeros v i (omega arith) none) e
+
+  -- and where none of the first seventeen bytes is a 00
+  pub no_first : ((k : ℕ) → k < length v → k < 17 → get_or v k 0 ≡ 0 → ⊥) → place_in_value x v ≡ min (length v) 16
+  no_first none =
+      by_cases (ltb 16 (length v))
+      (λ t.
+      let h = ltb-true 16 (length v) t in
+      at_last h (no_zeros v 16 (omega arith) (λ k l. none k (omega arith) (omega arith))) (none 16 h (omega arith)) ∙ omega arith)
+      (λ f.
+      let h = ltb-false 16 (length v) f in
+      let zeros : has_zero v ≡ false = sym (ap has_zero (take_all (length v) v (omega arith))) ∙ no_zeros v (length v) (omega arith) (λ k l. none k l (omega arith)) in
+      at-end h zeros ∙ omega arith)

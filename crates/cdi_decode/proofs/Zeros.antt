@@ -6,6 +6,7 @@ use mathlib.Core.Bool.{Bool, true, false, ◌||◌, or_assoc, or-true}
 use mathlib.Core.List.{List, [], ◌∷◌, ◌++◌}
 use native.Mathlib.Omega.{arith}
 use lib.Dec.{eqb}
+use Rattle.std.specs.List.{list_any}
 use lib.ListN.{take}
 use Rattle.logic.specs.Lists.{has_zero}
 use Rattle.logic.proofs.Choice.{neither}
@@ -26,3 +27,8 @@ no_zero_before (x ∷ l) (suc i) zero h e = absurd (omega arith)
 no_zero_before (x ∷ l) (suc i) (suc j) h e =
     let p = neither (eqb x 0) (has_zero (take j l)) e in
     rw p.0 (no_zero_before l i j (omega arith) p.1)
+
+-- whether `contains` finds one
+pub zero-list_any : (l : List ℕ) → has_zero l ≡ list_any (λ b. eqb b 0) l
+zero-list_any [] = refl
+zero-list_any (x ∷ l) = ap (λ (t : Bool). eqb x 0 || t) (zero-list_any l)

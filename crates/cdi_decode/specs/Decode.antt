@@ -1,12 +1,17 @@
 -- Document 02, Ask 1: what the reader says of a response to a command that was sent.
-use Rattle.std.specs.Prelude.{ℕ, zero, suc, ◌+◌, ◌-◌, List, Bool, cond, ◌&&◌, eqb, length, get_or, take}
+use Rattle.std.specs.Prelude.{ℕ, zero, suc, ◌+◌, ◌-◌, List, Bool, cond, ◌&&◌, eqb, length, get_or, take, Ok, Err}
+use Rattle.std.specs.Prelude as std
 use Rattle.refusal.specs.Refusal.{Result, accepted, refused, and_then, none, no_such_response}
+use Rattle.refusal.specs.Numbers.{number_of}
+use Rattle.cdi_frame.specs.declared.Span.{Span}
 use Rattle.cdi_frame.specs.Frame.{read_frame, payload_in}
 use Rattle.cdi_item.specs.declared.Item.{Item}
 use Rattle.cdi_command.specs.declared.Command.{Command}
 use Rattle.cdi_command.specs.Command.{validate_payload}
 use Rattle.cdi_command.specs.Kind.{is_read}
 use Rattle.cdi_decode.specs.declared.Decoded.{Decoded}
+use Rattle.cdi_decode.specs.declared.ResponseError.{ResponseError}
+use Rattle.cdi_decode.specs.declared.ResponseError.TheVariants.{Refused, NoSuchResponse}
 use Rattle.cdi_decode.specs.Follow.{may_follow_in, head_of, value_item, may_follow, is_whole}
 
 -- what a payload is as the response to a command: a response, with so many bytes of value from a place on, or none, by the byte at a place
@@ -65,3 +70,9 @@ refused_fields n = record { refusal = n; place = 0; start = 0; length = 0 }
 abbrev pub decoded_fields : Result Reading → Decoded
 decoded_fields (accepted r) = reading_fields r
 decoded_fields (refused n) = refused_fields n
+
+-- what an answer of the source is told as
+abbrev pub decoded_from : std.Result Span ResponseError → Decoded
+decoded_from (Ok span) = record { refusal = none; place = 0; start = span.start; length = span.length }
+decoded_from (Err (Refused e)) = refused_fields (number_of e)
+decoded_from (Err (NoSuchResponse place)) = reading_fields (no_response place)

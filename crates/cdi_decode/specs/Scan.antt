@@ -1,5 +1,5 @@
 -- How far the functions of the reader come: what those beside its entry promise.
-use Rattle.std.specs.Prelude.{ℕ, ◌+◌, ◌<◌, ◌≤◌, ◌≡◌, Bool, cond, not, ◌&&◌, List, ◌∷◌, eqb, ltb, length, get_or, drop}
+use Rattle.std.specs.Prelude.{ℕ, ◌<◌, ◌≤◌, ◌≡◌, Bool, cond, ◌&&◌, List, ◌∷◌, eqb, ltb, length, get_or, drop}
 use Rattle.cdi_item.specs.declared.Item.{Item}
 use Rattle.cdi_item.specs.declared.Value.{Value}
 use Rattle.cdi_command.specs.Command.{read}
@@ -19,18 +19,6 @@ pub record SameFirst (expected found : List ℕ) (n : ℕ) : Type 0 where
   pub within-expected : n ≤ length expected
   pub within-found : n ≤ length found
   pub same : (i : ℕ) → i < n → get_or found i 0 ≡ get_or expected i 0
-
--- a test passes at a number and at the seven after it
-abbrev pub eight_from : (ℕ → Bool) → ℕ → Bool
-eight_from ok i = ok i && ok (i + 1) && ok (i + 2) && ok (i + 3) && ok (i + 4) && ok (i + 5) && ok (i + 6) && ok (i + 7)
-
--- the eight bytes from a place on are the same
-abbrev pub same_eight : (expected found : List ℕ) → ℕ → Bool
-same_eight expected found i = eight_from (λ j. eqb (get_or found j 0) (get_or expected j 0)) i
-
--- none of them is a 00
-abbrev pub no_zero_from : List ℕ → ℕ → Bool
-no_zero_from v i = eight_from (λ j. not (eqb (get_or v j 0) 0)) i
 
 -- the head of the response to a read: its kind, and the rest of the payload that was sent
 abbrev pub read_kind : ℕ → ℕ
