@@ -19,7 +19,7 @@ use Rattle.cdi_item.specs.Items.{item_of}
 use Rattle.cdi_item.specs.Values.{value_bytes, accepted_value}
 use Rattle.cdi_command.specs.declared.Command.{Command}
 use Rattle.cdi_command.specs.declared.Command.TheVariants.{SetDefault, EraseAll}
-use Rattle.cdi_command.specs.Command.{read, read_nv, write, set_default, erase_all, payload_code, payload_item, has_no_item, mark_of, is_served, is_head_length_right, select, command_on, parse_item, parse_payload, accepts_value}
+use Rattle.cdi_command.specs.Command.{read, read_nv, write, set_default, erase_all, payload_code, payload_item, has_no_item, mark_of, is_served, is_head_length_right, select, command_on, parse_item, parse_payload, accepts_value, validate_value}
 use Rattle.cdi_command.specs.Check.{is_read_code, bare_command}
 
 -- the definition, where the command is about no item ...
@@ -58,7 +58,11 @@ module _ (s : List ℕ) (code : ℕ) (first : slice_get s 0 ≡ Some code) where
       → parse_payload s ≡ and_then (item_of item) (parse_item (payload_code s) s)
   looked_up item m h is some l e = simp (sym is, ne_eqb m 0 some, l, e) at (on-item h)
 
--- a read carries no value; any other command on an item does
+-- a command about no item carries no value, ...
+pub bare_accepted : (code : ℕ) → validate_value (bare_command code) ≡ accepted (bare_command code)
+bare_accepted code = by_cases (eqb code set_default) (λ t. rw t) (λ f. rw f)
+
+-- ... nor does a read; any other command on an item does
 module _ (item : Item) (code : ℕ) (v : Value) (byte : ℕ) where
   pub read-accepted : is_read_code code ≡ true → accepts_value (command_on item code v byte) ≡ true
   unfolding command_on select
