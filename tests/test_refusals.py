@@ -26,7 +26,7 @@ REFERENCES = {
 
 # A refusal that is written as a number, in the source and in the definitions.
 BARE = {
-    ".rt": re.compile(r"\bRefused\(\s*\d|\brefused\(\s*\d|\brefusal:\s*\d"),
+    ".rt": re.compile(r"\bErr\(\s*\d|\brefusal:\s*\d"),
     ".antt": re.compile(r"\b(?:refuse|refused|outcome|result|responded|powered_up)\s+\d|\brefusal\s*=\s*\d"),
 }
 # What starts a comment that goes to the line's end.
@@ -224,7 +224,7 @@ def bare_numbers(extension, text):
 
 
 def check_bare_sample():
-    source = "a\nreturn Frame::Refused(\n    3,\n);\n// Refused(4)\n"
+    source = "a\nreturn Err(\n    3,\n);\n// Err(4)\n"
     definition = "(refused 12)\n-- refused 7\n(result 15 0)\n(refuse 2)\n"
     came = bare_numbers(".rt", code(".rt", source)), bare_numbers(".antt", code(".antt", definition))
     if came != ([2], [1, 3, 4]):

@@ -11,7 +11,7 @@ pub fn copy(source: &[u8], out: &mut [u8]) -> usize
     if source.len() > out.len() {
         return 0;
     }
-    // A `copy_from_slice` is a call of C's `memmove`.
+    // A `copy_from_slice` is a call of C's `memmove`. The places are counted, as the buffer may be longer than the source.
     for (i, byte) in source.iter().enumerate() {
         out[i] = *byte;
     }

@@ -1,12 +1,16 @@
 -- A name as it is shown, the row of an input, and that a command which is no read reads nothing.
 -- Assumes nothing.
-use Prim.Native.Nat.{ℕ, zero, suc, ◌-◌, ◌<◌, ◌≤◌}
+use Prim.Native.Nat.{ℕ, zero, suc, ◌+◌, ◌-◌, ◌<◌, ◌≤◌}
 use mathlib.Core.Path.{◌≡◌, refl, ap}
 use mathlib.Core.Bool.{true, false, true≢false}
-use mathlib.Core.List.{List, [], ◌∷◌}
+use mathlib.Core.List.{List, [], ◌∷◌, ◌++◌, append_assoc}
 use native.Mathlib.Omega.{arith}
+use native.Mathlib.Numerals.{add-one}
+use borrow.Author.Tests.{ne_eqb}
 use lib.Dec.{eqb}
-use lib.ListN.{length, get_or, take}
+use lib.ListN.{length, get_or, take, drop}
+use lib.Seq.{take-suc}
+use Rattle.logic.proofs.Rest.{one_more}
 use Rattle.cdi_command.specs.declared.Command.{Command}
 use Rattle.cdi_command.specs.declared.Command.TheVariants.{Read, ReadIndexed, ReadNv, ReadNvIndexed, Write, WriteIndexed, Program, ProgramIndexed, SetDefault, EraseAll}
 use Rattle.cdi_command.specs.Kind.{is_read}
@@ -23,6 +27,14 @@ shown_zero [] n before h here = absurd (omega arith)
 shown_zero (b ∷ bs) zero before h here = rw here refl
 shown_zero (b ∷ bs) (suc n) before h here =
     rw (before 0 (omega arith)) (ap (λ l. b ∷ l) (shown_zero bs n (λ k below. before (suc k) (omega arith)) (omega arith) here))
+
+-- any byte but 00 is shown, and then the rest
+pub shown-other : (l : List ℕ) (i : ℕ) → i < length l → (get_or l i 0 ≡ 0 → ⊥)
+    → take i l ++ name_shown (drop i l) ≡ take (i + 1) l ++ name_shown (drop (i + 1) l)
+unfolding name_shown
+shown-other l i h e =
+    let taken : take (i + 1) l ≡ take i l ++ (get_or l i 0 ∷ []) = rw add-one (take-suc l i 0 h) in
+    rw (one_more l i 0 h, taken) (simp (ne_eqb (get_or l i 0) 0 e, append_assoc))
 
 -- where there is no 00, the whole name is shown
 pub shown-all : (l : List ℕ) → ((k : ℕ) → k < length l → eqb (get_or l k 0) 0 ≡ false) → l ≡ name_shown l

@@ -80,7 +80,7 @@ fn setting(settings: &Settings, item: u8) -> &[u8]
     }
 }
 
-// Writes a value over the front of `out`, and returns how many bytes that is.
+// Writes a value over the front of `out`, and returns how many bytes that is. `byte_copy` would test once more whether it fits, and here it does.
 #[tactic(auto, unfolding(logic::specs::Written::written))]
 fn show(value: &[u8], out: &mut [u8]) -> usize
     requires { length value.now ≤ length out.old }

@@ -22,18 +22,18 @@ pub fn sum_from(start: usize, bytes: &[u8]) -> u8
 pub fn sum_holds(start: usize, packet: &[u8]) -> bool
     ensures { result ≡ sum_holds start packet.now }
 {
-    if packet.len() < 2 {
+    let [summed @ .., sum, _] = packet else {
         return false;
-    }
-    let sum_at = packet.len() - 2;
-    sum_from(start, &packet[0..sum_at]) == packet[sum_at]
+    };
+    sum_from(start, summed) == *sum
 }
 
-// Whether a block has these bytes at its ends. An empty block has none.
+// Whether a block has these bytes at its ends. An empty block has none: the test of it stands in the papers' words, and no read without it
+// is allowed.
 pub fn ends_hold(first: u8, last: u8, block: &[u8]) -> bool
     ensures { result ≡ ends_hold first last block.now }
 {
-    if block.len() == 0 {
+    if block.is_empty() {
         return false;
     }
     if block[0] != first {

@@ -37,7 +37,8 @@ pub fn export_charge(
     coyote_encode::encode_addressed(NO_ACK_DATA + sequence, route, &content, packet)
 }
 
-// The charge in data of so many bytes from a place on: the input's number and the readout, high byte first.
+// The charge in data of so many bytes from a place on: the input's number and the readout, high byte first. The definition is about their place
+// in the block too.
 fn read_charge(block: &[u8], start: usize, size: usize) -> Result<Charge, Refusal>
     requires { start + size ≤ length block.now }
     ensures { answer result ≡ charge_from block.now start size }

@@ -12,13 +12,10 @@ encode m room =
     (cond (ltb room (length (message_bytes m))) (refused frame_buffer_short) (accepted (message_bytes m)))
     (refused packet_content)
 
--- the bytes of parts that lie one after the other, at most as many as two bytes can tell
+-- the bytes of parts that lie one after the other
 abbrev pub joined : List (Bor (List ℕ)) → List ℕ
 joined parts = flat_map (λ part. part.now) parts
 
+-- as many bytes as two bytes can tell
 abbrev pub payload_max : ℕ
 payload_max = 0xFFFF
-
--- bytes are written if there is room for them
-abbrev pub in_room : (room : ℕ) → List ℕ → Result (List ℕ)
-in_room room bytes = cond (ltb room (length bytes)) (refused frame_buffer_short) (accepted bytes)

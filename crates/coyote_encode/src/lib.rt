@@ -5,9 +5,9 @@
 
 ghost use Rattle.std.specs.Prelude.{◌≡◌, ◌≤◌, length};
 ghost use Rattle.std.specs.List.{sum_by};
-ghost use Rattle.refusal.specs.Numbers.{WritesIfAccepted};
+ghost use Rattle.refusal.specs.Numbers.{in_room, WritesIfAccepted};
 ghost use Rattle.coyote_packet.specs.Layout.{packet_bytes, addressed, read_mem, success, failure};
-ghost use Rattle.coyote_encode.specs.Encode.{payload_max, joined, in_room, encode};
+ghost use Rattle.coyote_encode.specs.Encode.{payload_max, joined, encode};
 
 use coyote_packet::{
     ADDRESSED_END, DATA_MAX, END, FAILURE, FAILURE_CODE_MAX, OVERHEAD, PAYLOAD_START, READ_MEM,

@@ -2,15 +2,13 @@
 // are 0, and after a refusal all are.
 #![tactic(auto)]
 
-ghost use Rattle.std.specs.Prelude.{◌≡◌, ◌≤◌, IfOk};
-ghost use Rattle.refusal.specs.Numbers.{answer};
+ghost use Rattle.std.specs.Prelude.{◌≡◌, ◌≤◌};
 ghost use Rattle.coyote_packet.specs.Layout.{ack_type};
 ghost use Rattle.coyote_packet.specs.Read.{read_packet};
 ghost use Rattle.coyote_packet.specs.Laws.{AddressedSmall, Small};
-ghost use Rattle.coyote_fields.specs.Fields.{addressed_fields, fields_of};
+ghost use Rattle.coyote_fields.specs.Fields.{addressed_fields, packet_fields, fields_of};
 
 use coyote_packet::{ACK, ACK_DATA, Addressed, FAILURE, NO_ACK_DATA, Packet, READ_MEM, SUCCESS};
-use refusal::Refusal;
 
 // The number of the refusal or 0, and the packet's type and fields.
 #[repr(C)]
@@ -30,12 +28,13 @@ pub struct PacketFields {
     pub data_length: u16,
 }
 
-// AckData, NoAckData and Ack, each with its first type. Nothing wraps: the sequence number of a packet that was read is below 16.
+// AckData, NoAckData and Ack, each with its first type.
 fn addressed_fields(kind: u8, packet: Addressed) -> PacketFields
-    ensures { AddressedSmall packet → kind ≤ ack_type → result ≡ addressed_fields kind packet }
+    requires { (kind ≤ ack_type) × AddressedSmall packet }
+    ensures { result ≡ addressed_fields kind packet }
 {
     PacketFields {
-        kind: kind.wrapping_add(packet.sequence),
+        kind: kind + packet.sequence,
         source_group: packet.source_group,
         source_address: packet.source_address,
         target_count: packet.target_count,
@@ -45,40 +44,35 @@ fn addressed_fields(kind: u8, packet: Addressed) -> PacketFields
     }
 }
 
-impl From<Result<Packet, Refusal>> for PacketFields {
-    // Of a packet that was read, whose numbers are small.
-    ghost from_gives = { λ read fields. IfOk read Small → fields ≡ fields_of (answer read) };
-
-    fn from(read: Result<Packet, Refusal>) -> PacketFields {
-        match read {
-            Ok(Packet::AckData(data)) => addressed_fields(ACK_DATA, data),
-            Ok(Packet::NoAckData(data)) => addressed_fields(NO_ACK_DATA, data),
-            Ok(Packet::Ack(data)) => addressed_fields(ACK, data),
-            Ok(Packet::ReadMem(read)) => PacketFields {
-                kind: READ_MEM,
-                memory_space: read.space,
-                memory_address: read.address,
-                memory_length: read.length,
-                ..PacketFields::default()
-            },
-            Ok(Packet::Success(answer)) => PacketFields {
-                kind: SUCCESS,
-                request_type: answer.request_type,
-                data_start: answer.data_start,
-                data_length: answer.data_length,
-                ..PacketFields::default()
-            },
-            Ok(Packet::Failure(answer)) => PacketFields {
-                kind: FAILURE,
-                request_type: answer.request_type,
-                failure_code: answer.code,
-                ..PacketFields::default()
-            },
-            Err(refusal) => PacketFields {
-                refusal: refusal.number(),
-                ..PacketFields::default()
-            },
-        }
+// The fields of a packet that was read. This is no `From`, which would have to promise something of sequence numbers that no packet has.
+fn packet_fields(packet: Packet) -> PacketFields
+    requires { Small packet }
+    ensures { result ≡ packet_fields packet }
+{
+    match packet {
+        Packet::AckData(data) => addressed_fields(ACK_DATA, data),
+        Packet::NoAckData(data) => addressed_fields(NO_ACK_DATA, data),
+        Packet::Ack(data) => addressed_fields(ACK, data),
+        Packet::ReadMem(read) => PacketFields {
+            kind: READ_MEM,
+            memory_space: read.space,
+            memory_address: read.address,
+            memory_length: read.length,
+            ..PacketFields::default()
+        },
+        Packet::Success(answer) => PacketFields {
+            kind: SUCCESS,
+            request_type: answer.request_type,
+            data_start: answer.data_start,
+            data_length: answer.data_length,
+            ..PacketFields::default()
+        },
+        Packet::Failure(answer) => PacketFields {
+            kind: FAILURE,
+            request_type: answer.request_type,
+            failure_code: answer.code,
+            ..PacketFields::default()
+        },
     }
 }
 
@@ -86,5 +80,11 @@ impl From<Result<Packet, Refusal>> for PacketFields {
 pub fn decode_fields(block: &[u8]) -> PacketFields
     ensures { result ≡ fields_of (read_packet block.now) }
 {
-    coyote_decode::decode(block).into()
+    match coyote_decode::decode(block) {
+        Ok(packet) => packet_fields(packet),
+        Err(refusal) => PacketFields {
+            refusal: refusal.number(),
+            ..PacketFields::default()
+        },
+    }
 }

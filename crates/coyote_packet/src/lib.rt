@@ -54,7 +54,7 @@ pub const DATA_MAX: usize = 1023;
 pub const MEMORY_LENGTH_MIN: u16 = 2;
 
 pub const MEMORY_LENGTH_MAX: u16 = 1023;
-// The largest memory space (RAM) and the largest failure code. Both are numbers for the same reason.
+// The largest memory space (RAM) and the largest failure code. Both are numbers, as writers and C take them.
 pub const MEMORY_SPACE_MAX: u8 = 1;
 
 pub const FAILURE_CODE_MAX: u8 = 5;

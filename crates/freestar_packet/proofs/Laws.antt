@@ -16,7 +16,8 @@ use Rattle.refusal.proofs.Results.{never_both, else_refused, then-refused}
 use Rattle.freestar_packet.specs.declared.Message.{Message}
 use Rattle.freestar_packet.specs.Layout.{types, fits_in, overhead, start_of_data, packet_bytes, pan_id_holds, is_accepted}
 use Rattle.freestar_packet.specs.Read.{data_in, read_frame, validated, read_packet, content, content_in}
-use Rattle.freestar_packet.specs.Encode.{in_room, encode}
+use Rattle.refusal.specs.Numbers.{in_room}
+use Rattle.freestar_packet.specs.Encode.{encode}
 use Rattle.freestar_packet.specs.Laws.{ReadBack, ReadBackOnly, ReadIsLaidOut, WrittenIsRead, ReadIsWritten}
 use Rattle.freestar_packet.proofs.Types.{fits_small}
 use Rattle.freestar_packet.proofs.Frame.{packet_length_lem, data_part, data_back, packet_read, accepted-frame, data_length_is, data_within}

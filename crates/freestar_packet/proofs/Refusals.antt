@@ -12,7 +12,8 @@ use Rattle.refusal.proofs.Results.{among, RefusedAmong, of_refused}
 use Rattle.checksum.specs.Checksum.{sum_holds, ends_hold}
 use Rattle.freestar_packet.specs.Layout.{start, end, types, fits_in, sum_start, packet_bytes, pan_id_holds}
 use Rattle.freestar_packet.specs.Read.{length_holds, data_in, read_frame, validated, read_packet}
-use Rattle.freestar_packet.specs.Encode.{in_room, encode}
+use Rattle.refusal.specs.Numbers.{in_room}
+use Rattle.freestar_packet.specs.Encode.{encode}
 
 -- what is refused with one of these numbers, and then with one of them again, is refused with one of them
 pub then-among : {A B : Type 0} (ms : List ℕ) (r : Result A) (next : A → Result B) → RefusedAmong ms r → ((x : A) → RefusedAmong ms (next x)) → RefusedAmong ms (and_then r next)

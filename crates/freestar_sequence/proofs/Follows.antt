@@ -13,7 +13,7 @@ use Rattle.refusal.specs.Refusal.{Result, accepted, refused, and_then, frame_buf
 use Rattle.freestar_packet.specs.declared.Message.{Message}
 use Rattle.freestar_packet.specs.Layout.{answer_to, requests, fits_in, packet_bytes, pan_id_fits, pan_id_holds}
 use Rattle.freestar_packet.specs.Read.{data_in, read_frame}
-use Rattle.freestar_packet.specs.Encode.{in_room}
+use Rattle.refusal.specs.Numbers.{in_room}
 use Rattle.freestar_model.specs.Cells.{Cell, pan_id_cell, long_address_cell, short_address_cell, channel, action_of}
 use Rattle.freestar_model.specs.Model.{Delivery, Decision, refuse, execute, decide_frame, decide, stores, given, answered, model}
 use Rattle.freestar_settings.specs.declared.Settings.{Settings}

@@ -19,7 +19,7 @@ use Rattle.refusal.proofs.Results.{never_both, then-refused, RefusedAmong, of_re
 use Rattle.freestar_packet.specs.declared.Message.{Message}
 use Rattle.freestar_packet.specs.Layout.{set_pan_id, set_address, set_channel, answer_to, requests, fits_in, overhead, packet_bytes, pan_id_fits, pan_id_holds, is_accepted}
 use Rattle.freestar_packet.specs.Read.{data_in, read_frame}
-use Rattle.freestar_packet.specs.Encode.{in_room}
+use Rattle.refusal.specs.Numbers.{in_room}
 use Rattle.freestar_packet.proofs.Types.{by_type, pan_id_size, address-size, channel-size}
 use Rattle.freestar_packet.proofs.Frame.{accepted-frame}
 use Rattle.freestar_packet.proofs.Laws.{read_back}

@@ -13,7 +13,7 @@ use Rattle.refusal.proofs.Results.{never_both, else_refused}
 use Rattle.freestar_packet.specs.declared.Message.{Message}
 use Rattle.freestar_packet.specs.Layout.{requests, fits_in, pan_id_fits, pan_id_holds}
 use Rattle.freestar_packet.specs.Read.{data_in, read_frame}
-use Rattle.freestar_packet.specs.Encode.{in_room}
+use Rattle.refusal.specs.Numbers.{in_room}
 use Rattle.freestar_settings.specs.declared.Settings.{Settings}
 use Rattle.freestar_settings.specs.Settings.{stored, validate_message, validate, settings_by}
 

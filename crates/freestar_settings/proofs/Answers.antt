@@ -6,7 +6,8 @@ use mathlib.Core.Bool.{true}
 use native.Mathlib.Omega.{arith}
 use lib.ListN.{length, length-append}
 use Rattle.freestar_packet.specs.Layout.{answer_to, requests, fits_in, pan_id_fits, is_accepted}
-use Rattle.freestar_packet.specs.Encode.{in_room, encode}
+use Rattle.refusal.specs.Numbers.{in_room}
+use Rattle.freestar_packet.specs.Encode.{encode}
 use Rattle.freestar_packet.proofs.Types.{rest_is_reset, by_type}
 use Rattle.freestar_packet.proofs.Laws.{only_room}
 use Rattle.freestar_settings.specs.declared.Settings.{Settings}

@@ -6,7 +6,7 @@ use Rattle.refusal.specs.Refusal.{Result, accepted, refused, and_then, packet_co
 use Rattle.freestar_packet.specs.declared.Message.{Message}
 use Rattle.freestar_packet.specs.Layout.{set_pan_id, query_pan_id, set_address, query_address, set_channel, query_channel, answer_to, requests, fits_in, packet_bytes, pan_id_fits, pan_id_holds}
 use Rattle.freestar_packet.specs.Read.{data_in, read_frame}
-use Rattle.freestar_packet.specs.Encode.{in_room}
+use Rattle.refusal.specs.Numbers.{in_room}
 use Rattle.freestar_model.specs.Model.{Delivery}
 use Rattle.freestar_settings.specs.declared.Settings.{Settings}
 

@@ -3,9 +3,8 @@
 #![tactic(auto)]
 
 ghost use Rattle.std.specs.Prelude.{◌≡◌, true, length};
-ghost use Rattle.refusal.specs.Numbers.{answer as answer_of, WritesIfAccepted};
+ghost use Rattle.refusal.specs.Numbers.{answer as answer_of, in_room, WritesIfAccepted};
 ghost use Rattle.freestar_packet.specs.Layout.{requests, fits_in, pan_id_fits};
-ghost use Rattle.freestar_packet.specs.Encode.{in_room};
 ghost use Rattle.freestar_model.specs.Model.{delivery};
 ghost use Rattle.freestar_settings.specs.Settings.{ArrayLengths, address_bytes, stored, answer, validate, step, result_of};
 

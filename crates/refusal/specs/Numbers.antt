@@ -1,11 +1,11 @@
 -- Document 01, "Numbers that a refusal carries": the number of each case of the source's enum, and what an answer of the source is as a
 -- result of the definitions.
-use Rattle.std.specs.Prelude.{◌≡◌, ℕ, List, length, Ok, Err}
+use Rattle.std.specs.Prelude.{◌≡◌, ℕ, cond, ltb, List, length, Ok, Err}
 use Rattle.std.specs.Prelude as std
 use Rattle.refusal.specs.declared.Refusal.{Refusal}
 use Rattle.refusal.specs.declared.Refusal.TheVariants as case
 use Rattle.refusal.specs.declared.Outcome.{Outcome}
-use Rattle.refusal.specs.Refusal.{Result, accepted, refused, none, outcome, buffer_after}
+use Rattle.refusal.specs.Refusal.{Result, accepted, refused, none, frame_buffer_short, outcome, buffer_after}
 use Rattle.refusal.specs.Refusal as paper
 
 -- the number of each refusal
@@ -50,6 +50,10 @@ length_of (refused n) = refused n
 abbrev pub outcome_from : std.Result ℕ Refusal → Outcome
 outcome_from (Ok n) = outcome none n
 outcome_from (Err e) = outcome (number_of e) 0
+
+-- 13: a packet is written if a buffer with so much room is as long as this packet
+abbrev pub in_room : ℕ → List ℕ → Result (List ℕ)
+in_room room packet = cond (ltb room (length packet)) (refused frame_buffer_short) (accepted packet)
 
 -- what a writer promises of its answer, and of the buffer before it and after it: the bytes are written over the front, or none where it refuses
 abbrev pub WritesIfAccepted : Result (List ℕ) → List ℕ → List ℕ → std.Result ℕ Refusal → Type 0

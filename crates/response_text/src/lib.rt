@@ -11,7 +11,8 @@ use hex_text::{LINE_FEED, SPACE};
 
 const DIGITS: [u8; 16] = *b"0123456789ABCDEF";
 
-// Writes a byte's two digits and the character after them, from `at` on.
+// Writes a byte's two digits and the character after them, from `at` on. The place is a number, for the contract says of the whole buffer what is
+// written: over parts of it the caller would have to put them together again.
 fn write_pair(byte: u8, after: u8, out: &mut [u8], at: usize)
     requires { at + 3 ≤ length out.old }
     ensures { out.new ≡ sets out.old at (digit_of (byte / 16) ∷ digit_of (byte % 16) ∷ after ∷ []) }
@@ -63,7 +64,8 @@ pub fn write_block(bytes: &[u8], out: &mut [u8]) -> Option<usize>
 const EOL: u8 = LINE_FEED;
 
 // Writes `refused` and a number in decimal as a line, with its line feed, over the front of `out`, and returns how many
-// bytes that is. Where there is no room nothing is written. The digits are `a`, `b` and `c`, the first in front.
+// bytes that is. Where there is no room nothing is written. The digits are `a`, `b` and `c`, the first in front:
+// three lines to be read as they stand are plainer than a loop over the digits of a number that may begin with 0.
 pub fn write_refused(number: u8, out: &mut [u8]) -> Option<usize>
     ensures { (result ≡ count_in out.old (printed (refused_text number))) × (out.new ≡ written_in out.old (printed (refused_text number))) }
 {
