@@ -4,6 +4,7 @@
 #![tactic(auto)]
 
 ghost use Rattle.std.specs.Prelude.{◌≡◌, ◌≤◌, length};
+ghost use Rattle.std.specs.Option.{option_to_list};
 ghost use Rattle.logic.specs.Written.{Writes};
 ghost use Rattle.cdi_item.specs.Items.{row_length};
 ghost use Rattle.cdi_value.specs.Value.{name_shown, setting_value, status_shown, plain_value, row_value, value_into, value_max, value_room, Shows};
@@ -11,7 +12,6 @@ ghost use Rattle.cdi_value.specs.Value.{name_shown, setting_value, status_shown,
 use cdi_command::{Command, Index};
 use cdi_item::{EVENT_FLAG, NAME_LENGTH, ROW_LENGTH, code};
 use cdi_state::{ModuleState, Settings, Stored};
-use std::slice;
 
 // The control source's bits that take power, line mask and latch mask from the settings and not from the hardware.
 const POWER_FROM_SETTING: u8 = 0x01;
@@ -64,19 +64,19 @@ fn status(state: &ModuleState) -> [u8; STATUS_LENGTH]
     [flags, power, line_mask, latch_mask]
 }
 
-// The byte of an item in one copy of the settings; nothing for a code that is no setting's.
+// The byte of an item in one copy of the settings; none for a code that is no setting's.
 #[tactic(auto, unfolding(crate::specs::Value::setting_value))]
-fn setting(settings: &Settings, item: u8) -> &[u8]
-    ensures { (result.now ≡ setting_value settings.now item) × (length result.now ≤ 1) }
+fn setting(settings: &Settings, item: u8) -> Option<u8>
+    ensures { option_to_list result ≡ setting_value settings.now item }
 {
     match item {
-        code::LINE_MASK => slice::from_ref(&settings.line_mask),
-        code::LATCH_MASK => slice::from_ref(&settings.latch_mask),
-        code::TX_POWER => slice::from_ref(&settings.tx_power),
-        code::CONTROL_SOURCE => slice::from_ref(&settings.control_source),
-        code::MESSAGE_SELECT => slice::from_ref(&settings.message_select),
-        code::INTERRUPT_MASK => slice::from_ref(&settings.interrupt_mask),
-        _ => &[],
+        code::LINE_MASK => Some(settings.line_mask),
+        code::LATCH_MASK => Some(settings.latch_mask),
+        code::TX_POWER => Some(settings.tx_power),
+        code::CONTROL_SOURCE => Some(settings.control_source),
+        code::MESSAGE_SELECT => Some(settings.message_select),
+        code::INTERRUPT_MASK => Some(settings.interrupt_mask),
+        _ => None,
     }
 }
 
@@ -91,7 +91,7 @@ fn show(value: &[u8], out: &mut [u8]) -> usize
 }
 
 // The value of an item that has no index, its settings from one copy.
-#[tactic(auto, unfolding(crate::specs::Value::plain_value))]
+#[tactic(auto, unfolding(crate::specs::Value::plain_value, logic::specs::Written::written))]
 fn read_plain(state: &ModuleState, settings: &Settings, item: u8, out: &mut [u8]) -> usize
     requires { value_max ≤ length out.old }
     ensures { Shows value_max (plain_value state.now settings.now item) out.old out.new result }
@@ -106,7 +106,10 @@ fn read_plain(state: &ModuleState, settings: &Settings, item: u8, out: &mut [u8]
         code::LADJ => show(&[state.live.ladj], out),
         code::STATUS => show(&status(state), out),
         code::EVENTS => show(&[state.live.events], out),
-        _ => show(setting(settings, item), out),
+        _ => match setting(settings, item) {
+            Some(byte) => show(&[byte], out),
+            None => 0,
+        },
     }
 }
 
