@@ -37,6 +37,7 @@ fn part<const N: usize>(source: &[u8], at: usize) -> [u8; N]
     bytes
 }
 
+// By a loop and not by `array::from_fn`, which was tried: what it tells of its calls leaves open which bytes the closure reads.
 fn slots_in(rows: &[u8]) -> [Slot; SLOT_COUNT]
     requires { length rows.now ≡ slot_count * row_length }
     ensures { result ≡ slots_in slot_count rows.now }

@@ -13,7 +13,7 @@ use super::{
 use cdi_item::{ROW_LENGTH, SLOT_COUNT};
 use cdi_state::{Settings, Slot, Stored};
 
-// Writes bytes over those from a place on.
+// Writes bytes over those from a place on. `byte_copy` is for a buffer that may be too short; here each part has its place.
 fn put(source: &[u8], at: usize, buffer: &mut [u8])
     requires { at + length source.now ≤ length buffer.old }
     ensures { buffer.new ≡ sets buffer.old at source.now }
