@@ -5,9 +5,12 @@ use mathlib.Core.Path.{◌≡◌, sym, ap, ◌∙◌, subst}
 use mathlib.Core.Bool.{true, false, cond}
 use mathlib.Core.List.{List, ◌∷◌}
 use native.Mathlib.Omega.{arith}
-use borrow.Author.Tests.{eq-eqb, ne_eqb}
+use borrow.Author.Tests.{eq-eqb, ne_eqb, ltb-true, ltb-false}
+use lib.Dec.{ltb}
 use lib.ListN.{length, get_or, take, drop, length-drop}
 use lib.Seq.{take_all}
+use Rattle.std.proofs.lemmas.List.{ext_get_or}
+use Rattle.logic.proofs.Choice.{by_cases}
 use Rattle.cdi_item.specs.declared.Item.{Item}
 use Rattle.cdi_command.specs.Payload.{ack_response, no_error}
 use Rattle.cdi_decode.specs.Scan.{SameUpTo, read_head, is_whole_value}
@@ -102,7 +105,7 @@ module _ (sent p : List ℕ) where
           at_first (suc zero) h = second
           at_first (suc (suc i)) h = absurd (omega arith)
 
-      pub wrong_echo : n < length sent → as_echo ≡ no_response (2 + n)
+      wrong_echo : n < length sent → as_echo ≡ no_response (2 + n)
       wrong_echo h = wrong_head echo_head no_value p 2 (2 + n) same_echo (omega arith)
 
       module _ (past : length sent ≤ n) where
@@ -115,17 +118,35 @@ module _ (sent p : List ℕ) where
         none : place_in_value no_value (drop (length echo_head) p) ≡ 0
         none = (none-follows (drop (length echo_head) p)).0
 
-        pub more_bytes : n < length (rest 2 p) → as_echo ≡ no_response (2 + n)
+        more_bytes : n < length (rest 2 p) → as_echo ≡ no_response (2 + n)
         more_bytes h =
             let long : 0 < length (drop (length echo_head) p) = omega (arith, length-drop (length echo_head) p, rest-length 2 p, whole-head) in
             value-decides echo_head no_value p 2 whole_echo ∙
             rw (none, ne_eqb 0 (length (drop (length echo_head) p)) (λ e. omega arith)) (ap no_response (omega (arith, whole-head)))
 
-        pub right_echo : length (rest 2 p) ≤ n → as_echo ≡ response 2 (length (rest 2 p))
-        right_echo h =
+        whole_only : length (rest 2 p) ≤ n → as_echo ≡ response 2 (length (rest 2 p))
+        whole_only h =
             let long : length p - 2 ≡ length (rest 2 p) = sym (rest-length 2 p) in
             let empty : 0 ≡ length (drop (length echo_head) p) = omega (arith, length-drop (length echo_head) p, rest-length 2 p, whole-head) in
             value-decides echo_head no_value p 2 whole_echo ∙
             rw (none, eq-eqb 0 (length (drop (length echo_head) p)) empty, (none-follows (drop (length echo_head) p)).1) (ap (response 2) long)
 
-pub ruleset echo_ways = (wrong_ack, wrong_error, wrong_echo, more_bytes, right_echo)
+      -- it is another payload, from the first byte on that is not the same
+      pub other-echo : (rest 2 p ≡ sent → ⊥) → as_echo ≡ no_response (2 + n)
+      other-echo other =
+          by_cases (ltb n (length sent)) (λ t. wrong_echo (ltb-true n (length sent) t))
+          (λ f.
+          let past = ltb-false n (length sent) f in
+          by_cases (ltb n (length (rest 2 p))) (λ t. more_bytes past (ltb-true n (length (rest 2 p)) t))
+          (λ g.
+          let end = ltb-false n (length (rest 2 p)) g in
+          absurd (other (ext_get_or 0 (rest 2 p) sent (omega (arith, s.within-expected, s.within-found)) (λ i h. s.same i (omega arith))))))
+
+    -- it is the payload that was sent
+    pub right_echo : 2 ≤ length p → get_or p 1 0 ≡ no_error → rest 2 p ≡ sent → as_echo ≡ response 2 (length (rest 2 p))
+    right_echo two second e =
+        whole_only two second (length sent)
+        (record { within-expected = omega arith; within-found = rw e (omega arith); same = λ i h. rw e; differs = λ h k q. absurd (omega arith) })
+        (omega arith) (rw e (omega arith))
+
+pub ruleset echo_ways = (wrong_ack, wrong_error, other-echo, right_echo)

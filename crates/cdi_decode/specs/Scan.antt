@@ -14,12 +14,6 @@ pub record SameUpTo (expected found : List ℕ) (n : ℕ) : Type 0 where
   pub same : (i : ℕ) → i < n → get_or found i 0 ≡ get_or expected i 0
   pub differs : n < length expected → n < length found → get_or found n 0 ≡ get_or expected n 0 → ⊥
 
--- the first n bytes are those that are expected, whatever the next one is
-pub record SameFirst (expected found : List ℕ) (n : ℕ) : Type 0 where
-  pub within-expected : n ≤ length expected
-  pub within-found : n ≤ length found
-  pub same : (i : ℕ) → i < n → get_or found i 0 ≡ get_or expected i 0
-
 -- the head of the response to a read: its kind, and the rest of the payload that was sent
 abbrev pub read_kind : ℕ → ℕ
 read_kind code = cond (eqb code read) read_response read_nv_response

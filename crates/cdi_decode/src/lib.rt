@@ -5,7 +5,7 @@
 
 mod value;
 
-ghost use Rattle.std.specs.Prelude.{◌≡◌, ◌∷◌, ◌≤◌, length};
+ghost use Rattle.std.specs.Prelude.{◌≡◌, ◌≢◌, ◌∷◌, ◌≤◌, length};
 ghost use Rattle.std.specs.Bool.{MatchBool};
 ghost use Rattle.refusal.specs.Refusal.{accepted};
 ghost use Rattle.cdi_item.specs.Items.{item_of};
@@ -13,11 +13,11 @@ ghost use Rattle.cdi_command.specs.Command.{validate_payload};
 ghost use Rattle.cdi_command.specs.Check.{command_about};
 ghost use Rattle.cdi_command.specs.Payload.{ack_response, no_error};
 ghost use Rattle.cdi_decode.specs.declared.ResponseError.TheVariants.{Refused};
-ghost use Rattle.cdi_decode.specs.Scan.{SameFirst, SameUpTo, read_kind, read_head};
+ghost use Rattle.cdi_decode.specs.Scan.{SameUpTo, read_kind, read_head};
 ghost use Rattle.cdi_decode.specs.Follow.{no_value};
 ghost use Rattle.cdi_decode.specs.Decode.{read_as, read_payload, reading_fields, decode_response, read_framed, decoded_fields, decoded_from};
 
-use cdi_command::{ACK_RESPONSE, NO_ERROR, READ, READ_NV_RESPONSE, READ_RESPONSE};
+use cdi_command::{ACK_RESPONSE, NO_ERROR, PAYLOAD_MAX, READ, READ_NV_RESPONSE, READ_RESPONSE};
 use cdi_frame::Span;
 use cdi_item::Item;
 use refusal::{NONE, Refusal};
@@ -95,24 +95,23 @@ fn read_kind(code: u8) -> u8
     }
 }
 
-// How many bytes of a payload are compared at once, where there are so many: a row's payload has them, and none has more.
-const AT_ONCE: usize = 8;
-
-// A number of bytes of `found` that are those of `expected`, from the first on: eight, or none. By one, or by `==` of the slices, a row's
-// payload takes longer.
-fn skip_same(expected: &[u8], found: &[u8]) -> usize
-    ensures { SameFirst expected.now found.now result }
+// Whether some bytes are those that were sent. A row's payload, the longest, is compared at once: `==` of the slices takes longer.
+fn is_same(found: &[u8], sent: &[u8]) -> bool
+    ensures { MatchBool result (found.now ≡ sent.now) (found.now ≢ sent.now) }
 {
     match (
-        expected.first_chunk::<AT_ONCE>(),
-        found.first_chunk::<AT_ONCE>(),
+        found.as_array::<PAYLOAD_MAX>(),
+        sent.as_array::<PAYLOAD_MAX>(),
     ) {
-        (Some(expected), Some(found)) if *expected == *found => AT_ONCE,
-        _ => 0,
+        (Some(found), Some(sent)) => *found == *sent,
+        _ => {
+            found.len() == sent.len() && found.iter().zip(sent).all(|(found, sent)| *found == *sent)
+        }
     }
 }
 
-fn count_by_one(expected: &[u8], found: &[u8]) -> usize
+// How many bytes of `found` are those of `expected`, from the first on.
+fn count_same(expected: &[u8], found: &[u8]) -> usize
     ensures { SameUpTo expected.now found.now result }
 {
     expected
@@ -120,14 +119,6 @@ fn count_by_one(expected: &[u8], found: &[u8]) -> usize
         .zip(found)
         .take_while(|(expected, found)| **expected == **found)
         .count()
-}
-
-// How many bytes of `found` are those of `expected`, from the first on.
-fn count_same(expected: &[u8], found: &[u8]) -> usize
-    ensures { SameUpTo expected.now found.now result }
-{
-    let skipped = skip_same(expected, found);
-    skipped + count_by_one(&expected[skipped..], &found[skipped..])
 }
 
 // Whether a payload begins with the head of the response to a read: its kind, the item and the index again.
@@ -192,15 +183,14 @@ fn read_echo(sent: &[u8], payload: &[u8]) -> Result<Span, ResponseError>
 {
     match payload {
         [ACK_RESPONSE, NO_ERROR, echoed @ ..] => {
-            let same = count_same(sent, echoed);
-            if same == sent.len() && same == echoed.len() {
+            if is_same(echoed, sent) {
                 return Ok(Span {
                     start: PAYLOAD_START + ECHO_START,
-                    length: same,
+                    length: echoed.len(),
                 });
             }
             Err(ResponseError::NoSuchResponse {
-                place: ECHO_START + same,
+                place: ECHO_START + count_same(sent, echoed),
             })
         }
         [ACK_RESPONSE, ..] => Err(ResponseError::NoSuchResponse { place: 1 }),
