@@ -12,7 +12,7 @@ What is in backticks is one of these, by the first rule that applies:
   NAME, CRATE and a part of one capital letter stand for anything. What is under target/ or an out/ is built, and is not looked for.
 - A goal: what the prover calls a fact that it has to find a proof of, by its form (GOAL). Where the prover finds the proof alone the
   whole is in no source, but each word that its hyphens join is: a word of a source, or one of the prover's own (GOAL_WORDS), or a
-  number that a condition or an arm compares with.
+  number that a condition or an arm compares with, or that tells goals of one name apart.
 - A name: all else, and a file that ends as a built one does (BUILT). It is a whole word of a source, not only of a comment or an
   import, or the name of a file or a folder. `a::b` is in the sources of the crate a, or both parts are in one source. After the
   path of a source in the same passage a name is in that source, and before `in` or a bracket and a path or a crate it is there.
@@ -30,7 +30,8 @@ from library import Problem
 
 ROOT = os.path.dirname(os.path.dirname(os.path.abspath(__file__)))
 DECISIONS = "docs/DECISIONS.md"
-PORT = "docs/PORT.md"  # the page on the toolchain before today's, which names what is gone
+# The pages on the toolchain before today's and on the forms before today's, which name what is gone.
+PAST = "docs/PORT.md", "docs/DESIGN-PASS.md"
 TRACE = "docs/TRACE.md"
 
 ENDINGS = (".antt", ".c", ".edit", ".h", ".log", ".md", ".py", ".rt", ".txt")
@@ -67,9 +68,9 @@ GOAL = re.compile(
 )
 GOAL_WORDS = set(
     "returns ensures then else after in not default loop init preserved smaller requires result bounds slice_bounds offset_bounds"
-    " overflow_add overflow_sub overflow_mul overflow_cast overflow_step nonzero_div nonzero_rem eq ne lt le gt ge".split()
+    " in_err overflow_add overflow_sub overflow_mul overflow_cast overflow_step nonzero_div nonzero_rem eq ne lt le gt ge".split()
 )
-COMPARED = re.compile(r"(?:eq|ne|lt|le|gt|ge)[0-9]+")
+COMPARED = re.compile(r"(?:eq|ne|lt|le|gt|ge|len)[0-9]+")
 ANYTHING = re.compile(r"NAME|CRATE|(?<![^/])[A-Z](?![^/])")
 
 
@@ -213,11 +214,11 @@ def form_of(token):
 
 
 def unknown_in_goal(goal):
-    """The words of a goal's name that are neither the prover's nor of a source. A bare number is the arm of a `match`, after `in`, or the
-    place in a list whose bounds are asked."""
+    """The words of a goal's name that are neither the prover's nor of a source. A bare number is the arm of a `match`, after `in`, the place
+    in a list whose bounds are asked, or, at the end, which of several goals of one name it is."""
     words = goal.split("-")
-    for before, word in zip(["", *words], words):
-        number = word.isdigit() and (before == "in" or words[0] == "bounds")
+    for place, (before, word) in enumerate(zip(["", *words], words), 1):
+        number = word.isdigit() and (before == "in" or words[0] == "bounds" or place == len(words) > 2)
         if not (number or word in GOAL_WORDS or COMPARED.fullmatch(word) or not word.isdigit() and is_known(word)):
             yield word
 

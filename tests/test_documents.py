@@ -14,7 +14,7 @@ from documents import (
     DECISIONS,
     ID,
     NO_SOURCES,
-    PORT,
+    PAST,
     ROOT,
     TOKEN,
     crates,
@@ -109,7 +109,7 @@ class Passage:
 def check_names():
     """Every path, name and id in backticks exists, but on the page that names what is gone."""
     faults, seen = [], collections.Counter()
-    for document in (path for path in documents() if path != PORT):
+    for document in (path for path in documents() if path not in PAST):
         for number, text in passages(read(document)):
             passage = Passage(text)
             faults += [f"{document}:{number}: {fault}" for fault in passage.faults()]

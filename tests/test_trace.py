@@ -166,7 +166,7 @@ SAMPLES = (
     (["a", "`refusal/specs/Refusal.antt`", NOTICES], ["no name after refusal/specs/Refusal.antt"]),
     (["a", "`refusal/specs/Refusal.antt`: `outcomeO`", NOTICES], ["`outcomeO` is not defined in crates/refusal/specs/Refusal.antt"]),
     (["a", "`refusal/specs/Refusal.antt`: `written`", NOTICES], ["`written` is not defined in crates/refusal/specs/Refusal.antt"]),
-    (["a", "`refusal/src/lib.rt`: `refused`", "`tests/reference.py`: `execute`"], []),
+    (["a", "`refusal/src/lib.rt`: `number`", "`tests/reference.py`: `execute`"], []),
     (["a", "`refusal/src/lib.rt`: `length`", NOTICES], ["`length` is not defined in crates/refusal/src/lib.rt"]),
     (["a", "`include/cdi.h`: `cdi_module_state`", "`sequence/specs/Machine.antt`: `none`"], [
         "`none` is not defined in crates/sequence/specs/Machine.antt", "a definition or a source notices nothing: `sequence/specs/Machine.antt`: `none`"
