@@ -1,8 +1,9 @@
 -- One turn: what `replay_lines` answers of the characters that are there, and what it leaves of them.
 -- Assumes nothing.
 use Prim.Native.Nat.{ℕ, ◌+◌, ◌-◌, ◌≤◌}
-use mathlib.Core.Path.{◌≡◌, sym, ap, ◌∙◌}
-use mathlib.Core.Bool.{Bool, true, false, false≢true}
+use mathlib.Core.Path.{◌≡◌, refl, sym, ap, ◌∙◌}
+use mathlib.Core.Bool.{Bool, true, false, not, ◌&&◌, ◌||◌, false≢true}
+use mathlib.Core.Logic.{inl}
 use mathlib.Core.List.{List}
 use native.Mathlib.Nat.{sub-zero}
 use native.Mathlib.Omega.{arith}
@@ -14,14 +15,16 @@ use Rattle.logic.specs.Written.{written}
 use Rattle.logic.proofs.Choice.{by_cases}
 use Rattle.logic.proofs.Written.{written-front}
 use Rattle.cdi_state.specs.declared.ModuleState.{ModuleState}
-use Rattle.replay_text.specs.Replay.{lines_text, lines_state}
+use Rattle.replay_text.specs.Replay.{lines_text}
 use Rattle.replay_text.specs.Answered.{printed_max, unfinished, with_line_feeds, answered}
 use Rattle.replay_text.specs.Session.{kept_of}
 use Rattle.replay_text.proofs.Laws.{consumed_within, unfinished-left}
 use Rattle.replay_lines.specs.declared.Progress.{Progress}
 use Rattle.replay_lines.specs.Progress.{progress}
 use Rattle.logic.specs.Lists.{between}
-use Rattle.replay.specs.Program.{buffer_size, Refilled, answers, left_after, is_full, Stays}
+use Rattle.replay.specs.declared.Session.{Session}
+use Rattle.replay.specs.Program.{buffer_size, Refilled, answers, left_after, is_full, Stays, Turned}
+use Rattle.replay.specs.Ending.{Answered}
 
 -- a part of a buffer without its first n elements
 between-after : (l : List ℕ) (from end n : ℕ) → from + n ≤ end → end ≤ length l → between (from + n) end l ≡ drop n (between from end l)
@@ -32,41 +35,56 @@ between-after l from end n within inside =
     rw (width, take-add n k (drop from l))
     (rw (← drop-drop n from l) (sym (drop_at (take n (drop from l)) (take k (drop n (drop from l))) n (length-take-le n (drop from l) (omega arith)))))
 
--- what is known once the characters from `from` as far as `end` are answered: all that is consumed was there, the text lies in the
--- output buffer from its first byte on, and whether there is room for one more
-pub record Learnt (state : ModuleState) (input : List ℕ) (from end : ℕ) (output : List ℕ) (r : Progress) : Type 0 where
-  pub start-within : from + r.consumed ≤ end
+-- what is known once the characters that a session has are answered: all that is consumed was there, the text lies in the output buffer
+-- from its first byte on, and whether there is room for one more
+pub record Learnt (session : Session) (input output : List ℕ) (r : Progress) : Type 0 where
+  pub start-within : session.start + r.consumed ≤ session.end
   pub text-within : r.written ≤ length output
-  pub state-after : r.state ≡ lines_state state (answers state (between from end input))
-  pub text : take (length (lines_text state (answers state (between from end input)))) output ≡ lines_text state (answers state (between from end input))
-  pub left : between (from + r.consumed) end input ≡ left_after state (between from end input)
-  pub full : ltb (length output - r.written) printed_max ≡ is_full state (between from end input)
+  pub lines : Answered session.state (between session.start session.end input) output r.state (between (session.start + r.consumed) session.end input) r.written
 
 -- that is what the contract of `replay_lines` says, in an output buffer of the program's size
-pub learnt : (state : ModuleState) (input before after : List ℕ) (from end : ℕ) (r : Progress) → from ≤ end → end ≤ length input
-    → length before ≡ buffer_size → length after ≡ length before
-    → r ≡ progress state (answered state (between from end input) (length before))
-    → after ≡ written before (lines_text state (answered state (between from end input) (length before)))
-    → Learnt state input from end after r
+pub learnt : (session : Session) (input before after : List ℕ) (r : Progress)
+    → (length input ≡ buffer_size) × (length before ≡ buffer_size) × (session.start ≤ session.end) × (session.end ≤ buffer_size)
+    → length after ≡ length before
+    → (r ≡ progress session.state (answered session.state (between session.start session.end input) (length before)))
+    × (after ≡ written before (lines_text session.state (answered session.state (between session.start session.end input) (length before))))
+    → Learnt session input after r
 unfolding written
-learnt state input before after from end r ordered inside size same result buffer =
+learnt session input before after r sizes same promised =
+    let state = session.state in
+    let from = session.start in
+    let end = session.end in
     let chars = between from end input in
     let ls = answers state chars in
     let text = lines_text state ls in
-    let lines-answered : answered state chars (length before) ≡ ls = ap (answered state chars) size in
-    let reported : r ≡ progress state ls = result ∙ ap (progress state) lines-answered in
-    let placed : after ≡ written before text = buffer ∙ ap (λ (k : List (List ℕ)). written before (lines_text state k)) lines-answered in
+    let lines-answered : answered state chars (length before) ≡ ls = ap (answered state chars) sizes.1 in
+    let reported : r ≡ progress state ls = promised.0 ∙ ap (progress state) lines-answered in
+    let placed : after ≡ written before text = promised.1 ∙ ap (λ (k : List (List ℕ)). written before (lines_text state k)) lines-answered in
     let consumed : r.consumed ≡ length (with_line_feeds ls) = ap (λ (p : Progress). p.consumed) reported in
     let count : r.written ≡ length text = ap (λ (p : Progress). p.written) reported in
+    let inside : end ≤ length input = omega arith in
     let width = length-take-le (end - from) (drop from input) (omega (arith, length-drop from input)) in
     let within : from + r.consumed ≤ end = omega (arith, consumed_within state chars buffer_size) in
     record {
       start-within = within;
       text-within = omega (arith, ap length placed, length-append text (drop (length text) before));
-      state-after = ap (λ (p : Progress). p.state) reported;
-      text = ap (take (length text)) placed ∙ written-front before text;
-      left = between-after input from end r.consumed within inside ∙ ap (λ (n : ℕ). drop n chars) consumed;
-      full = rw (same ∙ size, count);
+      lines = record {
+        text = ap (take (length text)) placed ∙ written-front before text;
+        state-after = ap (λ (p : Progress). p.state) reported;
+        left = between-after input from end r.consumed within inside ∙ ap (λ (n : ℕ). drop n chars) consumed;
+        full = rw (same ∙ sizes.1, count);
+      };
+    }
+
+-- so a turn that does not read, whatever came of the print
+pub stays : {state after : ModuleState} {chars output rest : List ℕ} {written : ℕ} {ended endedAfter : Bool} → Answered state chars output after rest written
+    → endedAfter ≡ ended → (done printed : Bool) → (not printed || ltb (length output - written) printed_max) || ended ≡ true
+    → done ≡ printed && not (ltb (length output - written) printed_max) → Turned state chars ended output after rest endedAfter done printed 0 false
+stays lines same done printed why is =
+    record {
+      text = lines.text;
+      state-after = lines.state-after;
+      left = inl (record { same = lines.left; same_end = same; why = rw (← lines.full) why; is_done = rw (← lines.full) is; not_failed = refl });
     }
 
 -- what is read begins at the buffer's first place

@@ -1,3 +1,4 @@
+pub mod Ending
 pub mod Program
 pub mod Run
 pub mod Witness

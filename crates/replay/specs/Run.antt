@@ -2,7 +2,7 @@
 -- `replay` says that the session that it returns, and both buffers, are those after such turns.
 --
 -- No contract can say what a call of the system reads or writes, so the following is outside the proof and is tested instead:
--- - `print` writes the front of the output buffer to standard output, once and before more is read, and `printed` is its result;
+-- - `turn` writes the front of the output buffer to standard output, once and before more is read, and `printed` is whether that went well;
 -- - `read_input` reads standard input, `count` and `failed` are the result, and the characters given are those read;
 -- - `main` calls `replay` once, and `report` writes the reason to standard error if not all is done;
 -- - what the standard library, the C library and the system do in these calls.
@@ -89,6 +89,6 @@ pub record RunTheorem : Type 0 where
   -- at any time, what is printed is the front of the model's text for what is read
   pub front : {n : ℕ} {state : ModuleState} {chars : List ℕ} {ended : Bool} (turns : Turns n state chars ended)
       → take (length (text_of turns)) (model_replayed (joined (reads_of turns))) ≡ text_of turns
-  -- and the text of the last turn is at the front of the output buffer, which is where `print` takes it from
+  -- and the text of the last turn is at the front of the output buffer, which is where `turn` prints it from
   pub in_buffer : {output : List ℕ} {after : ModuleState} {rest : List ℕ} {endedAfter done printed failed : Bool} {count : ℕ}
       (run : Stops output after rest endedAfter done printed count failed) → take (length (last_text run)) output ≡ last_text run

@@ -5,10 +5,11 @@
 // whose end is still to be read, and prints what is answered before it reads on.
 #![tactic(auto)]
 
-ghost use Rattle.std.specs.Prelude.{◌≡◌, ◌+◌, ◌<◌, ◌≤◌, length, take, drop};
+ghost use Rattle.std.specs.Prelude.{◌≡◌, ◌+◌, ◌<◌, ◌≤◌, true, false, length, take, drop, Ok, IfOk};
 ghost use Rattle.replay_text.specs.Session.{kept_max, kept_of};
 ghost use Rattle.logic.specs.Lists.{between};
 ghost use Rattle.replay.specs.Program.{buffer_size, is_end, chars_after, Refilled, Turned};
+ghost use Rattle.replay.specs.Ending.{first_session, Answered, done_of, printed_of, count_of, failed_of};
 ghost use Rattle.replay.specs.Run.{Stops};
 
 use cdi_state::ModuleState;
@@ -23,42 +24,61 @@ const BUFFER_SIZE: usize = 65536;
 // so the rest of it need not be kept.
 const KEPT_MAX: usize = LINE_MAX + 1;
 
-// Standard input and output, and why the last read or print that failed did so.
+// Standard input and output.
 #[derive(Clone, Copy)]
 struct Streams {
     input: Stdin,
     output: Stdout,
-    error: Option<io::Error>,
-}
-
-// The result of a read: how many bytes it gave, and whether it failed. If it gave none and did not fail, the input has ended.
-#[derive(Clone, Copy)]
-struct Piece {
-    count: usize,
-    failed: bool,
-}
-
-// How much of the input buffer holds characters after a read, and the read's result.
-#[derive(Clone, Copy)]
-struct Filled {
-    end: usize,
-    count: usize,
-    failed: bool,
 }
 
 // What goes from one turn to the next: the state, which part of the input buffer is not answered yet, and whether the input has ended
-// after it. The rest says how the turn went: whether all is done, whether the text was printed, and the result of the read. No turn
-// follows one that is done or failed.
+// after it.
 #[derive(Clone, Copy)]
 struct Session {
     state: ModuleState,
     start: usize,
     end: usize,
     ended: bool,
-    done: bool,
-    printed: bool,
-    count: usize,
-    failed: bool,
+}
+
+impl Session {
+    // A module as it leaves the factory, with nothing read.
+    fn first() -> Session
+        ensures { result ≡ first_session }
+    {
+        Session {
+            state: ModuleState::factory(),
+            start: 0,
+            end: 0,
+            ended: false,
+        }
+    }
+}
+
+// How a turn ends whose text is printed.
+#[derive(Clone, Copy)]
+enum Ending {
+    // All is done.
+    Done,
+    // It did not read, since whole lines may be left.
+    Full,
+    // It read so many bytes. If it read none, the input has ended.
+    Read(usize),
+}
+
+impl Ending {
+    fn is_done(self) -> bool
+        ensures { result ≡ done_of (Ok self) }
+    {
+        matches!(self, Ending::Done)
+    }
+}
+
+// What failed in a turn, and why.
+#[derive(Clone, Copy)]
+enum Failure {
+    Print(io::Error),
+    Read(io::Error),
 }
 
 // Moves input[from..end] to the front, as much of it as has to be kept, and returns how much that is.
@@ -67,42 +87,19 @@ fn keep(input: &mut [u8], from: usize, end: usize) -> usize
     ensures { (result ≤ kept_max) × (result ≤ length input.old)
         × (take result input.new ≡ kept_of (between from end input.old)) }
 {
-    let mut i = 0;
-    while from + i < end && i < KEPT_MAX {
-        input[i] = input[from + i];
-        i += 1;
-    }
-    i
-}
-
-// Reads once, into `input` after its first `kept` bytes, and returns the result.
-fn read_input(streams: &mut Streams, input: &mut [u8], kept: usize) -> Piece
-    requires { kept ≤ length input.old }
-    ensures { (kept + result.count ≤ length input.old) × (take kept input.new ≡ take kept input.old) }
-{
-    match streams.input.read(&mut input[kept..]) {
-        Ok(count) => Piece {
-            count,
-            failed: false,
-        },
-        Err(error) => {
-            streams.error = Some(error);
-            Piece {
-                count: 0,
-                failed: true,
-            }
-        }
-    }
+    let count = (end - from).min(KEPT_MAX);
+    input.copy_within(from..from + count, 0);
+    count
 }
 
 // How many characters there are after a read that followed the first `kept` of them. If the input has ended within a line, a line feed
 // is added.
-fn take_in(input: &mut [u8], kept: usize, count: usize, failed: bool) -> usize
+fn take_in(input: &mut [u8], kept: usize, count: usize) -> usize
     requires { (kept < length input.old) × (kept + count ≤ length input.old) }
     ensures { (result ≤ length input.old)
-        × (take result input.new ≡ chars_after (take kept input.old) (take count (drop kept input.old)) (is_end count failed)) }
+        × (take result input.new ≡ chars_after (take kept input.old) (take count (drop kept input.old)) (is_end count false)) }
 {
-    if failed | (count > 0) {
+    if count > 0 {
         return kept + count;
     }
     if kept == 0 {
@@ -112,106 +109,104 @@ fn take_in(input: &mut [u8], kept: usize, count: usize, failed: bool) -> usize
     kept + 1
 }
 
-// Keeps input[from..end], a line whose end is still to be read, at the front, and reads on after it.
-fn refill(streams: &mut Streams, input: &mut [u8], from: usize, end: usize) -> Filled
-    requires { (length input.old ≡ buffer_size) × (from ≤ end) × (end ≤ buffer_size) }
-    ensures { (result.end ≤ buffer_size)
-        × Refilled (kept_of (between from end input.old)) (take result.end input.new) result.count result.failed }
+// Reads once, into `input` after its first `kept` bytes.
+fn read_input(streams: &mut Streams, input: &mut [u8], kept: usize) -> io::Result<usize>
+    requires { kept ≤ length input.old }
+    ensures { IfOk result (λ count. kept + count ≤ length input.old) × (take kept input.new ≡ take kept input.old) }
 {
-    let kept = keep(input, from, end);
-    let piece = read_input(streams, input, kept);
-    let count = piece.count;
-    let failed = piece.failed;
-    let end = take_in(input, kept, count, failed);
-    Filled { end, count, failed }
+    streams.input.read(&mut input[kept..])
 }
 
-// Prints a text and returns whether all of it was written.
-fn print(streams: &mut Streams, text: &[u8]) -> bool {
-    match streams.output.write_all(text) {
-        Ok(()) => true,
-        Err(error) => {
-            streams.error = Some(error);
-            false
+// Keeps what is left of the input, a line whose end is still to be read, at the front, and reads on after it.
+fn refill(streams: &mut Streams, session: &mut Session, input: &mut [u8]) -> Result<Ending, Failure>
+    requires { (length input.old ≡ buffer_size) × (session.old.start ≤ session.old.end) × (session.old.end ≤ buffer_size) × (session.old.ended ≡ false) }
+    ensures { (session.new.state ≡ session.old.state) × (session.new.start ≡ 0) × (session.new.end ≤ buffer_size)
+        × (session.new.ended ≡ is_end (count_of result) (failed_of result)) × (done_of result ≡ false) × (printed_of result ≡ true)
+        × Refilled (kept_of (between session.old.start session.old.end input.old)) (take session.new.end input.new) (count_of result) (failed_of result) }
+{
+    let kept = keep(input, session.start, session.end);
+    session.start = 0;
+    session.end = kept;
+    match read_input(streams, input, kept) {
+        Ok(count) => {
+            session.end = take_in(input, kept, count);
+            session.ended = count == 0;
+            Ok(Ending::Read(count))
         }
+        Err(error) => Err(Failure::Read(error)),
     }
+}
+
+// Answers as many lines as there is room for, and returns how much of the output buffer their text takes.
+fn answer(session: &mut Session, input: &[u8], output: &mut [u8]) -> usize
+    requires { (length input.now ≡ buffer_size) × (length output.old ≡ buffer_size)
+        × (session.old.start ≤ session.old.end) × (session.old.end ≤ buffer_size) }
+    ensures within { result ≤ length output.new }
+    ensures left { (session.new.start ≤ session.new.end) × (session.new.end ≡ session.old.end) × (session.new.ended ≡ session.old.ended) }
+    ensures lines { Answered session.old.state (between session.old.start session.old.end input.now)
+        output.new session.new.state (between session.new.start session.new.end input.now) result }
+{
+    let chars = &input[session.start..session.end];
+    let progress = replay_lines::replay_lines(session.state, chars, output);
+    session.state = progress.state;
+    session.start += progress.consumed;
+    progress.written
 }
 
 // Answers as many lines as there is room for, prints the responses, and reads on if no whole line is left. It prints before it reads,
 // so that a user who types a line at a time sees each response before the next line.
-fn turn(streams: &mut Streams, session: Session, input: &mut [u8], output: &mut [u8]) -> Session
+fn turn(
+    streams: &mut Streams,
+    session: &mut Session,
+    input: &mut [u8],
+    output: &mut [u8],
+) -> Result<Ending, Failure>
     requires { (length input.old ≡ buffer_size) × (length output.old ≡ buffer_size)
-        × (session.start ≤ session.end) × (session.end ≤ buffer_size) }
-    ensures { (result.start ≤ result.end) × (result.end ≤ buffer_size)
-        × Turned session.state (between session.start session.end input.old) session.ended
-        output.new result.state (between result.start result.end input.new) result.ended result.done result.printed result.count result.failed }
+        × (session.old.start ≤ session.old.end) × (session.old.end ≤ buffer_size) }
+    ensures { (session.new.start ≤ session.new.end) × (session.new.end ≤ buffer_size)
+        × Turned session.old.state (between session.old.start session.old.end input.old) session.old.ended
+        output.new session.new.state (between session.new.start session.new.end input.new) session.new.ended
+        (done_of result) (printed_of result) (count_of result) (failed_of result) }
 {
-    let before = session.state;
-    let from = session.start;
-    let end = session.end;
-    let ended = session.ended;
-    let progress = replay_lines::replay_lines(before, &input[from..end], output);
-    let state = progress.state;
-    let written = progress.written;
-    let start = from + progress.consumed;
-    let printed = print(streams, &output[0..written]);
+    let written = answer(session, input, output);
+    if let Err(error) = streams.output.write_all(&output[..written]) {
+        return Err(Failure::Print(error));
+    }
     // If the output is full, whole lines may be left. If not, only a line is left whose end is still to be read.
     let full = output.len() - written < PRINTED_MAX;
-    if !printed | full | ended {
-        return Session {
-            state,
-            start,
-            end,
-            ended,
-            done: printed & !full,
-            printed,
-            count: 0,
-            failed: false,
-        };
+    if full {
+        return Ok(Ending::Full);
     }
-    let filled = refill(streams, input, start, end);
-    let count = filled.count;
-    let failed = filled.failed;
-    Session {
-        state,
-        start: 0,
-        end: filled.end,
-        ended: !(failed | (count > 0)),
-        done: false,
-        printed,
-        count,
-        failed,
+    if session.ended {
+        return Ok(Ending::Done);
     }
+    refill(streams, session, input)
 }
 
-// Runs turns until all is done, a print or a read fails, or the turns are used up, and returns the last one's session. A proved loop
-// has to end, and the input may never end, so the turns are counted down from a number that no run uses up.
-fn replay(streams: &mut Streams, input: &mut [u8], output: &mut [u8]) -> Session
-    requires { (length input.old ≡ buffer_size) × (length output.old ≡ buffer_size) }
-    ensures { Stops output.new result.state (between result.start result.end input.new) result.ended
-        result.done result.printed result.count result.failed }
+// No run uses up so many turns.
+const TURNS_MAX: u64 = u64::MAX;
+
+// Runs turns from the first session until all is done, a print or a read fails, or the turns are used up, and returns how the last one
+// ended. A proved loop has to end, and the input may never end, so the turns are counted.
+fn replay(
+    streams: &mut Streams,
+    session: &mut Session,
+    input: &mut [u8],
+    output: &mut [u8],
+) -> Result<Ending, Failure>
+    requires { (length input.old ≡ buffer_size) × (length output.old ≡ buffer_size) × (session.old ≡ first_session) }
+    ensures { Stops output.new session.new.state (between session.new.start session.new.end input.new) session.new.ended
+        (done_of result) (printed_of result) (count_of result) (failed_of result) }
 {
-    let mut session = Session {
-        state: ModuleState::factory(),
-        start: 0,
-        end: 0,
-        ended: false,
-        done: false,
-        printed: true,
-        count: 0,
-        failed: false,
-    };
-    let mut turns = u64::MAX;
-    loop {
-        session = turn(streams, session, input, output);
-        turns -= 1;
-        let done = session.done;
-        let printed = session.printed;
-        let failed = session.failed;
-        if done | !printed | failed | (turns == 0) {
-            return session;
+    let mut last = Ending::Full;
+    for _turn in 0..TURNS_MAX {
+        last = turn(streams, session, input, output)?;
+        let done = last.is_done();
+        if done {
+            break;
         }
     }
+    Ok(last)
 }
 
 // The system's words for an error, without the number that `Display` writes after them.
@@ -235,18 +230,12 @@ fn explain(rt: &(impl Eprint + AllocGlobal), what: &str, error: io::Error) -> io
 
 // Reports on standard error why the program stopped before all was done. No contract can say what is written, so
 // `tests/test_replay.py` provokes each message, the last one in a program with two turns.
-fn report(
-    rt: &(impl Eprint + AllocGlobal),
-    last: Session,
-    error: Option<io::Error>,
-) -> io::Result<()> {
-    if last.done {
-        return Ok(());
-    }
-    match error {
-        Some(error) if !last.printed => explain(rt, "standard output cannot be written", error),
-        Some(error) => explain(rt, "standard input cannot be read", error),
-        None => eprintln!(rt; "replay: stopped after 18446744073709551615 turns, with input left"),
+fn report(rt: &(impl Eprint + AllocGlobal), last: Result<Ending, Failure>) -> io::Result<()> {
+    match last {
+        Ok(Ending::Done) => Ok(()),
+        Ok(_) => eprintln!(rt; "replay: stopped after 18446744073709551615 turns, with input left"),
+        Err(Failure::Print(error)) => explain(rt, "standard output cannot be written", error),
+        Err(Failure::Read(error)) => explain(rt, "standard input cannot be read", error),
     }
 }
 
@@ -254,11 +243,11 @@ fn main(rt: HostRuntime) {
     let mut streams = Streams {
         input: rt.stdin(),
         output: rt.stdout(),
-        error: None,
     };
     let mut input = [0u8; BUFFER_SIZE];
     let mut output = [0u8; BUFFER_SIZE];
-    let last = replay(&mut streams, &mut input, &mut output);
+    let mut session = Session::first();
+    let last = replay(&mut streams, &mut session, &mut input, &mut output);
     // Where standard error cannot be written, nobody can be told.
-    let _ = report(&rt, last, streams.error);
+    let _ = report(&rt, last);
 }

@@ -3,20 +3,20 @@
 #![tactic(auto)]
 
 ghost use Rattle.std.specs.Prelude.{◌≡◌, ◌≤◌, length};
+ghost use Rattle.std.specs.Option.{IsSomeAnd};
 ghost use Rattle.logic.specs.Written.{written};
-ghost use Rattle.response_text.specs.Text.{not_hex_text};
-ghost use Rattle.cdi_command.specs.Command.{validated_result};
+ghost use Rattle.refusal.specs.Numbers.{answer, outcome_from};
 ghost use Rattle.cdi_command.specs.Payload.{response_buffer_min};
-ghost use Rattle.cdi_module.specs.Module.{decided};
+ghost use Rattle.cdi_store.specs.Store.{state_for};
 ghost use Rattle.replay_text.specs.Replay.{outcome_text, lines_text};
 ghost use Rattle.replay_text.specs.Answered.{printed_max, answered};
-ghost use Rattle.replay_lines.specs.Progress.{line_read, line_decision, ReadWithin, Prints, decision_text, answer_text, progress};
+ghost use Rattle.replay_lines.specs.Progress.{line_read, line_decision, decision_of, ReadWithin, ResponseWithin, Prints, decision_text, answer_text, progress};
 
-use cdi_command::Validated;
+use cdi_command::Command;
 use cdi_module::RESPONSE_BUFFER_MIN;
 use cdi_state::ModuleState;
-use hex_text::{HexLine, LINE_MAX};
-use refusal::{NONE, Outcome};
+use hex_text::{LINE_MAX, LineError};
+use refusal::Refusal;
 
 // The most bytes that a line of hex holds: each but the last takes two digits and a space.
 const BLOCK_MAX: usize = (LINE_MAX + 1) / 3;
@@ -35,58 +35,79 @@ pub struct Progress {
     pub written: usize,
 }
 
-// Writes what came of a block. A response is never empty, so a length of 0 is a refusal.
-fn write_outcome(outcome: Outcome, response: &[u8], out: &mut [u8]) -> usize
-    requires { (outcome.length ≤ length response.now) × (length response.now ≡ response_buffer_min) × (printed_max ≤ length out.old) }
-    ensures { Prints (outcome_text outcome.refusal outcome.length response.now) out.old out.new result }
+// Writes what came of a block: its response, or the number of its refusal.
+fn write_outcome(outcome: Result<usize, Refusal>, response: &[u8], out: &mut [u8]) -> Option<usize>
+    requires { ResponseWithin outcome (length response.now) × (length response.now ≡ response_buffer_min) × (printed_max ≤ length out.old) }
+    ensures { IsSomeAnd result (Prints (outcome_text (outcome_from outcome).refusal (outcome_from outcome).length response.now) out.old out.new) }
 {
-    let length = outcome.length;
-    if length == 0 {
-        return response_text::write_refused(outcome.refusal, out);
+    match outcome {
+        Ok(length) => response_text::write_block(&response[..length], out),
+        Err(refusal) => response_text::write_refused(refusal.number(), out),
     }
-    response_text::write_block(&response[0..length], out)
 }
 
-// Decides on a line that was read, whose bytes stand at the front of `block`. A line that is not hex stores nothing, so no command is told.
-fn decide_line(valid: bool, read: HexLine, block: &[u8]) -> Validated
-    requires { ReadWithin read (length block.now) }
-    ensures { decided (validated_result result) ≡ line_decision valid (line_read read block.now) }
+// Decides on a line that was read, whose bytes stand at the front of `block`. On a line that is not hex nothing is decided.
+fn decide_line(
+    valid: bool,
+    line: Result<usize, LineError>,
+    block: &[u8],
+) -> Option<Result<Command, Refusal>>
+    requires { ReadWithin line (length block.now) }
+    ensures { decision_of result ≡ line_decision valid (line_read line block.now) }
 {
-    match read {
-        HexLine::Block(n) => cdi_module::decide(valid, RESPONSE_BUFFER_MIN, &block[0..n]),
-        HexLine::NotHex => Validated::Refused(NONE),
-        HexLine::NoRoom => Validated::Refused(NONE),
+    match line {
+        Ok(count) => Some(cdi_module::decide(valid, RESPONSE_BUFFER_MIN, &block[..count])),
+        Err(_) => None,
     }
 }
 
 // Responds to what was decided on a block, and writes what came of it over the front of `out`.
-fn answer_block(state: ModuleState, validated: Validated, out: &mut [u8]) -> usize
+fn answer_block(
+    state: ModuleState,
+    decided: Result<Command, Refusal>,
+    out: &mut [u8],
+) -> Option<usize>
     requires { printed_max ≤ length out.old }
-    ensures { Prints (decision_text state (validated_result validated)) out.old out.new result }
+    ensures { IsSomeAnd result (Prints (decision_text state (answer decided)) out.old out.new) }
 {
     let mut response = [0u8; RESPONSE_BUFFER_MIN];
-    let outcome = cdi_module::respond(state, validated, &mut response);
+    let outcome = cdi_module::respond(state, decided, &mut response);
     write_outcome(outcome, &response, out)
 }
 
-// Writes what is printed for a line that is not hex over the front of `out`.
-fn answer_not_hex(out: &mut [u8]) -> usize
+// Writes the answer to a line over the front of `out`, by what was decided on it.
+fn write_answer(
+    state: ModuleState,
+    decided: Option<Result<Command, Refusal>>,
+    out: &mut [u8],
+) -> Option<usize>
     requires { printed_max ≤ length out.old }
-    ensures { Prints not_hex_text out.old out.new result }
+    ensures { IsSomeAnd result (Prints (answer_text state decided) out.old out.new) }
 {
-    response_text::write_not_hex(out)
+    match decided {
+        Some(decided) => answer_block(state, decided, out),
+        None => response_text::write_not_hex(out),
+    }
 }
 
-// Answers a line over the front of `out`, by what was decided on it.
-fn answer_line(state: ModuleState, read: HexLine, validated: Validated, out: &mut [u8]) -> usize
+// Answers a line over the front of `out`, which has room for it, and returns how many bytes that is.
+fn answer_line(
+    state: ModuleState,
+    decided: Option<Result<Command, Refusal>>,
+    out: &mut [u8],
+) -> usize
     requires { printed_max ≤ length out.old }
-    ensures { Prints (answer_text state read (validated_result validated)) out.old out.new result }
+    ensures { Prints (answer_text state decided) out.old out.new result }
 {
-    match read {
-        HexLine::Block(_) => answer_block(state, validated, out),
-        HexLine::NotHex => answer_not_hex(out),
-        HexLine::NoRoom => answer_not_hex(out),
-    }
+    write_answer(state, decided, out).unwrap()
+}
+
+// Stores what was decided in a state. It is kept out of the loop, so that the state stays in its place there.
+#[inline(never)]
+fn store(state: &mut ModuleState, decided: Result<Command, Refusal>)
+    ensures { state.new ≡ state_for state.old (answer decided) }
+{
+    *state = cdi_store::store(*state, decided);
 }
 
 // Answers the lines of `input` that a line feed ends, from the first on, over the front of `output`, each as long as there is room
@@ -102,23 +123,24 @@ pub fn replay_lines(state: ModuleState, input: &[u8], output: &mut [u8]) -> Prog
     let mut used = 0;
     let mut start = 0;
     let mut block = [0u8; BLOCK_MAX];
-    let mut line = hex_text::read_line_at(input, start, &mut block);
-    let mut end = line.end;
-    while end < input.len() && output.len() - used >= PRINTED_MAX {
-        let read = line.line;
-        let validated = decide_line(valid, read, &block);
-        let printed = answer_line(current, read, validated, &mut output[used..]);
-        used += printed;
-        start = end + 1;
-        line = hex_text::read_line_at(input, start, &mut block);
-        end = line.end;
-        if cdi_store::stores(validated) {
-            current = cdi_store::store(current, validated);
+    loop {
+        let read = hex_text::read_line_at(input, start, &mut block);
+        let room = output.len() - used;
+        if read.end >= input.len() || room < PRINTED_MAX {
+            return Progress {
+                state: current,
+                consumed: start,
+                written: used,
+            };
         }
-    }
-    Progress {
-        state: current,
-        consumed: start,
-        written: used,
+        let decided = decide_line(valid, read.line, &block);
+        let printed = answer_line(current, decided, &mut output[used..]);
+        if let Some(decided) = decided
+            && cdi_store::stores(decided)
+        {
+            store(&mut current, decided);
+        }
+        used += printed;
+        start = read.end + 1;
     }
 }

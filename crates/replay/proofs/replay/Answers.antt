@@ -1,34 +1,29 @@
--- Each turn goes on with the chain of turns or is its last.
-use Rattle.std.proofs.Common.{◌≡◌, suc, ◌-◌, arith}
-use Rattle.replay.specs.Run.{start, turns_max}
-use Rattle.replay.proofs.Turns.{stops, goes_on}
+-- Each turn goes on with those before it or is the last.
+use Rattle.std.proofs.Common.{sym, add-one, arith}
+use Rattle.std.proofs.lemmas.Result.{err_from_is_err_and}
+use Rattle.replay.proofs.Turns.{none, used_all, one_more, all_done, failed}
 use Rattle.replay.proofs.replay.Goals as goal
 
-pub loop-turns-init : goal.loop-turns-init
-loop-turns-init c =
-    record {
-      input_long = c.requires.0;
-      output_long = c.requires.1;
-      in_order = omega arith;
-      within = omega arith;
-      some_left = omega arith;
-      counted = omega arith;
-      chain = rw c.factory.ensures start;
-    }
+pub loop-turn-init : goal.loop-turn-init
+loop-turn-init c = rw c.requires.2 (record { input_long = c.requires.0; output_long = c.requires.1; in_order = omega arith; within = omega arith; made = none })
 
-pub returns-then-done-printed : goal.returns-then-done-printed
-returns-then-done-printed c = stops (c.loop-turns.turns - 1) c.loop-turns.invariant.chain c.turn-session.ensures.2 c.if-done-printed.true (λ none. omega arith)
+pub returns-in_err-last : goal.returns-in_err-last
+returns-in_err-last c =
+    let why = err_from_is_err_and c.from_residual.result c.from_residual.ensures.1 in
+    rw (why.1, why.2) (failed c.loop-turn.invariant.made _ c.in_err-last.ensures.2)
 
-pub loop-turns-preserved : goal.loop-turns-preserved
-loop-turns-preserved c =
-    let one_more : turns_max - (c.loop-turns.turns - 1) ≡ suc (turns_max - c.loop-turns.turns) = omega arith in
-    let next = goes_on (c.loop-turns.turns - 1) c.loop-turns.invariant.chain c.turn-session.ensures.2 c.if-done-printed.false in
+pub loop-turn-preserved : goal.loop-turn-preserved
+loop-turn-preserved c =
     record {
       input_long = omega arith;
       output_long = omega arith;
-      in_order = c.turn-session.ensures.0;
-      within = c.turn-session.ensures.1;
-      some_left = next.0;
-      counted = omega arith;
-      chain = rw one_more next.1;
+      in_order = c.in_ok-last.ensures.0;
+      within = c.in_ok-last.ensures.1;
+      made = rw add-one (one_more c.loop-turn.invariant.made _ c.in_ok-last.ensures.2 (sym c.if-done.ensures));
     }
+
+pub returns-then-done : goal.returns-then-done
+returns-then-done c = all_done c.loop-turn.invariant.made _ c.in_ok-last.ensures.2 (sym c.if-done.ensures)
+
+pub returns-after-loop-turn : goal.returns-after-loop-turn
+returns-after-loop-turn c = used_all c.loop-turn.invariant.made (omega arith)

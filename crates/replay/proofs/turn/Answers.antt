@@ -1,75 +1,43 @@
--- What `replay_lines` answers is printed, and where it leaves room only a line is left that is not finished, after which more is read.
-use Rattle.std.proofs.Common.{refl, inl, inr, length, ◌-◌, arith}
-use mathlib.Core.Bool.{not, ◌||◌}
-use borrow.Author.Tests.{not-false}
-use lib.Dec.{ltb}
-use Rattle.logic.proofs.Choice.{neither}
-use Rattle.replay_text.specs.Answered.{printed_max}
-use Rattle.replay.proofs.Left.{learnt, refilled}
+-- What is answered is printed, and where it leaves room only a line is left that is not finished, after which more is read.
+use Rattle.std.proofs.Common.{refl, inr, sym, ◌∙◌, false, true, arith}
+use borrow.Author.Tests.{lt-ltb, le-ltb}
+use Rattle.replay.proofs.Left.{stays, refilled}
 use Rattle.replay.proofs.turn.Goals as goal
 
-pub overflow_add-start : goal.overflow_add-start
-overflow_add-start c =
-    let call = c.replay_lines-progress in
-    let known = learnt c.args.session.state c.args.input.now c.args.output.now call.new.output c.args.session.start c.args.session.end call.result
-    c.requires.2 (omega arith) c.requires.1 call.auto.output call.ensures.0 call.ensures.1 in
-    omega (arith, known.start-within, c.requires.3)
+pub returns-in-Err : goal.returns-in-Err
+returns-in-Err c =
+    let answer = c.answer-written.ensures in
+    (answer.left.0, omega (arith, answer.left.1), stays answer.lines answer.left.2 false false refl refl)
 
-pub slice_bounds-print-end : goal.slice_bounds-print-end
-slice_bounds-print-end c =
-    let call = c.replay_lines-progress in
-    let known = learnt c.args.session.state c.args.input.now c.args.output.now call.new.output c.args.session.start c.args.session.end call.result
-    c.requires.2 (omega arith) c.requires.1 call.auto.output call.ensures.0 call.ensures.1 in
-    known.text-within
+pub returns-then-full : goal.returns-then-full
+returns-then-full c =
+    let answer = c.answer-written.ensures in
+    let full = lt-ltb _ _ c.if-full.true in
+    (answer.left.0, omega (arith, answer.left.1), stays answer.lines answer.left.2 false true (rw full refl) (rw full refl))
 
-pub returns-then-printed-full : goal.returns-then-printed-full
-returns-then-printed-full c =
-    let call = c.replay_lines-progress in
-    let known = learnt c.args.session.state c.args.input.now c.args.output.now call.new.output c.args.session.start c.args.session.end call.result
-    c.requires.2 (omega arith) c.requires.1 call.auto.output call.ensures.0 call.ensures.1 in (
-      known.start-within,
-      omega arith,
-      record {
-        text = known.text;
-        state-after = known.state-after;
-        left = inl (record {
-          same = known.left;
-          same_end = refl;
-          why = rw (← known.full) c.if-printed-full.true;
-          is_done = rw (← known.full) refl;
-          not_failed = refl;
-        });
-      },
-    )
-
-pub refill-filled-requires : goal.refill-filled-requires
-refill-filled-requires c =
-    let call = c.replay_lines-progress in
-    let known = learnt c.args.session.state c.args.input.now c.args.output.now call.new.output c.args.session.start c.args.session.end call.result
-    c.requires.2 (omega arith) c.requires.1 call.auto.output call.ensures.0 call.ensures.1 in
-    (c.requires.0, known.start-within, omega arith)
+pub returns-then-session : goal.returns-then-session
+returns-then-session c =
+    let answer = c.answer-written.ensures in
+    let room = le-ltb _ _ c.if-full.false in
+    let ended = sym answer.left.2 ∙ c.if-session.true in
+    (answer.left.0, omega (arith, answer.left.1), stays answer.lines answer.left.2 true true (rw (room, ended) refl) (rw room refl))
 
 pub returns : goal.returns
 returns c =
-    let call = c.replay_lines-progress in
-    let known = learnt c.args.session.state c.args.input.now c.args.output.now call.new.output c.args.session.start c.args.session.end call.result
-    c.requires.2 (omega arith) c.requires.1 call.auto.output call.ensures.0 call.ensures.1 in
-    let room = length call.new.output - call.result.written in
-    let test = neither (not c.print-printed.result || ltb room printed_max) c.args.session.ended c.if-printed-full.false in
-    let printed = neither (not c.print-printed.result) (ltb room printed_max) test.0 in
-    let refill = c.refill-filled in (
-      omega arith,
-      refill.ensures.0,
+    let answer = c.answer-written.ensures in
+    let refill = c.refill.ensures in (
+      omega (arith, refill.1),
+      refill.2,
       record {
-        text = known.text;
-        state-after = known.state-after;
+        text = answer.lines.text;
+        state-after = refill.0 ∙ answer.lines.state-after;
         left = inr (record {
-          is_printed = not-false c.print-printed.result printed.0;
-          not_full = rw (← known.full) printed.1;
-          not_ended = test.1;
-          refilled = refilled _ _ refill.new.input refill.result.end refill.result.count refill.result.failed known.left refill.ensures.1;
-          end_known = refl;
-          not_done = refl;
+          is_printed = refill.5;
+          not_full = sym answer.lines.full ∙ le-ltb _ _ c.if-full.false;
+          not_ended = sym answer.left.2 ∙ c.if-session.false;
+          refilled = rw refill.1 (refilled _ _ _ _ _ _ answer.lines.left refill.6);
+          end_known = refill.3;
+          not_done = refill.4;
         });
       },
     )
