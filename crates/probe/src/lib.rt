@@ -13,7 +13,7 @@ ghost use Rattle.replay_lines.specs.Progress.{progress};
 ghost use Rattle.probe.specs.Probe.{line_probe};
 
 use cdi_state::{AnalogInput, ModuleState};
-use hex_text::HexLine;
+use hex_text::LineError;
 use replay_lines::Progress;
 
 // The answers to a line: a block, ...
@@ -47,23 +47,15 @@ pub extern "C" fn probe_read_line_at(text: &[u8], from: usize, block: &mut [u8])
         × (block.new ≡ line_written (hex_line (line_from from text.now)) block.old) }
 {
     let read = hex_text::read_line_at(text, from, block);
-    let line = read.line;
-    match line {
-        HexLine::Block(length) => LineProbe {
-            answer: BLOCK,
-            length,
-            end: read.end,
-        },
-        HexLine::NotHex => LineProbe {
-            answer: NOT_HEX,
-            length: 0,
-            end: read.end,
-        },
-        HexLine::NoRoom => LineProbe {
-            answer: NO_ROOM,
-            length: 0,
-            end: read.end,
-        },
+    let (answer, length) = match read.line {
+        Ok(length) => (BLOCK, length),
+        Err(LineError::NotHex) => (NOT_HEX, 0),
+        Err(LineError::NoRoom) => (NO_ROOM, 0),
+    };
+    LineProbe {
+        answer,
+        length,
+        end: read.end,
     }
 }
 
@@ -72,7 +64,7 @@ pub extern "C" fn probe_read_line_at(text: &[u8], from: usize, block: &mut [u8])
 pub extern "C" fn probe_write_block(bytes: &[u8], out: &mut [u8]) -> usize
     ensures { (result ≡ length_in out.old (printed (text_in_hex bytes.now))) × (out.new ≡ written_in out.old (printed (text_in_hex bytes.now))) }
 {
-    response_text::write_block(bytes, out)
+    response_text::write_block(bytes, out).unwrap_or(0)
 }
 
 // Writes the line of a refusal in the same way.
@@ -80,7 +72,7 @@ pub extern "C" fn probe_write_block(bytes: &[u8], out: &mut [u8]) -> usize
 pub extern "C" fn probe_write_refused(number: u8, out: &mut [u8]) -> usize
     ensures { (result ≡ length_in out.old (printed (refused_text number))) × (out.new ≡ written_in out.old (printed (refused_text number))) }
 {
-    response_text::write_refused(number, out)
+    response_text::write_refused(number, out).unwrap_or(0)
 }
 
 // Writes the line that stands for a line that is not hex in the same way.
@@ -88,7 +80,7 @@ pub extern "C" fn probe_write_refused(number: u8, out: &mut [u8]) -> usize
 pub extern "C" fn probe_write_not_hex(out: &mut [u8]) -> usize
     ensures { (result ≡ length_in out.old (printed not_hex_text)) × (out.new ≡ written_in out.old (printed not_hex_text)) }
 {
-    response_text::write_not_hex(out)
+    response_text::write_not_hex(out).unwrap_or(0)
 }
 
 // Answers the whole lines of `input` from a state on, over the front of `output`.
