@@ -702,7 +702,7 @@ def check_many_reads(compare, rng):
     compare.lines += MANY
 
 
-TURNS = "let mut turns = u64::MAX;"
+TURNS = "const TURNS_MAX: u64 = u64::MAX;"
 BOTH = "runners=2"  # `rt try` runs a program on an interpreter and compiled, and both gave the same
 
 
@@ -716,7 +716,7 @@ def program_with_turns(folder, turns):
     text = source.read_text(encoding="utf-8")
     if text.count(TURNS) != 1:
         raise Problem(f"{source.name} does not have '{TURNS}' once")
-    source.write_text(text.replace(TURNS, f"let mut turns: u64 = {turns};"), encoding="utf-8")
+    source.write_text(text.replace(TURNS, f"const TURNS_MAX: u64 = {turns};"), encoding="utf-8")
     return crate
 
 
