@@ -121,7 +121,8 @@ fn count_same(expected: &[u8], found: &[u8]) -> usize
         .count()
 }
 
-// Whether a payload begins with the head of the response to a read: its kind, the item and the index again.
+// Whether a payload begins with the head of the response to a read: its kind, the item and the index again. What is known of the two lengths, here
+// and below, comes from different tests, so one type for it would be no plainer.
 fn has_head(sent: &[u8], payload: &[u8]) -> bool
     requires { (2 ≤ length sent.now) × (length sent.now ≤ 3) }
     ensures { MatchBool result (SameUpTo (read_head sent.now) payload.now (length sent.now)) (SameUpTo (read_head sent.now) payload.now (length sent.now) → ⊥) }

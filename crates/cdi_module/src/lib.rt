@@ -45,7 +45,8 @@ pub fn decide(valid: bool, room: usize, block: &[u8]) -> Result<Command, Refusal
     cdi_command::validate_payload(&block[span.start..span.start + span.length])
 }
 
-// Writes the response to a command that reads nothing over the front of `response`, and returns its length.
+// Writes the response to a command that reads nothing over the front of `response`, and returns its length. The buffer is asked for its room once, by
+// `respond`: a type for a buffer with room would be taken apart in each of these three at once.
 fn write_ack(command: Command, response: &mut [u8]) -> usize
     requires { response_buffer_min ≤ length response.old }
     ensures { Writes (response_with command []) response.old response.new result }

@@ -35,7 +35,8 @@ pub struct Progress {
     pub written: usize,
 }
 
-// Writes what came of a block: its response, or the number of its refusal.
+// Writes what came of a block: its response, or the number of its refusal. The output is asked for its room once, before a line is answered: a type for
+// a buffer with room would be taken apart again by what is called here.
 fn write_outcome(outcome: Result<usize, Refusal>, response: &[u8], out: &mut [u8]) -> Option<usize>
     requires { ResponseWithin outcome (length response.now) × (length response.now ≡ response_buffer_min) × (printed_max ≤ length out.old) }
     ensures { IsSomeAnd result (Prints (outcome_text (outcome_from outcome).refusal (outcome_from outcome).length response.now) out.old out.new) }

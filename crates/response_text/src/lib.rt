@@ -34,7 +34,7 @@ fn encode(bytes: &[u8], out: &mut [u8])
     write_pair(bytes[last], LINE_FEED, out, 3 * last);
 }
 
-// Copies a whole line over the front of `out` where it fits.
+// Copies a whole line over the front of `out` where it fits. With `byte_copy` the room would be tested here too, for the answer.
 fn copy_line(line: &[u8], out: &mut [u8]) -> Option<usize>
     ensures { (result ≡ count_in out.old line.now) × (out.new ≡ written_in out.old line.now) }
 {
