@@ -60,6 +60,7 @@ pub extern "C" fn probe_read_line_at(text: &[u8], from: usize, block: &mut [u8])
 }
 
 // Writes bytes as a line of hex over the front of `out`, and returns how many bytes that is, 0 where there is no room.
+#[tactic(auto, using(crate::proofs::Counted::counted))]
 #[unsafe(no_mangle)]
 pub extern "C" fn probe_write_block(bytes: &[u8], out: &mut [u8]) -> usize
     ensures { (result ≡ length_in out.old (printed (text_in_hex bytes.now))) × (out.new ≡ written_in out.old (printed (text_in_hex bytes.now))) }
@@ -68,6 +69,7 @@ pub extern "C" fn probe_write_block(bytes: &[u8], out: &mut [u8]) -> usize
 }
 
 // Writes the line of a refusal in the same way.
+#[tactic(auto, using(crate::proofs::Counted::counted))]
 #[unsafe(no_mangle)]
 pub extern "C" fn probe_write_refused(number: u8, out: &mut [u8]) -> usize
     ensures { (result ≡ length_in out.old (printed (refused_text number))) × (out.new ≡ written_in out.old (printed (refused_text number))) }
@@ -76,6 +78,7 @@ pub extern "C" fn probe_write_refused(number: u8, out: &mut [u8]) -> usize
 }
 
 // Writes the line that stands for a line that is not hex in the same way.
+#[tactic(auto, using(crate::proofs::Counted::counted))]
 #[unsafe(no_mangle)]
 pub extern "C" fn probe_write_not_hex(out: &mut [u8]) -> usize
     ensures { (result ≡ length_in out.old (printed not_hex_text)) × (out.new ≡ written_in out.old (printed not_hex_text)) }
