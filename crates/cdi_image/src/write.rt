@@ -21,8 +21,8 @@ fn put(source: &[u8], at: usize, buffer: &mut [u8])
     buffer[at..at + source.len()].copy_from_slice(source);
 }
 
-// The image is asked for its length once, by `save`. A type for a buffer of that length would say it of the whole, and each part below writes in one
-// that begins elsewhere.
+// The image is asked for its length once, by `save`. A type for a buffer of that length would be no plainer: it would be made and taken apart again for
+// the part behind the head.
 fn write_head(image: &mut [u8])
     requires { head_size ≤ length image.old }
     ensures { Put image.old 0 (mark ++ version1) head_size image.new }

@@ -95,7 +95,7 @@ pub fn respond(
 }
 
 // Executes one command block on a state: decides on it, responds, and stores. A refusal changes no byte of `response` and nothing in the
-// state. A block that stores nothing gives the state back without a further copy.
+// state. Where a block stores nothing no other state is made.
 pub fn execute(mut state: ModuleState, block: &[u8], response: &mut [u8]) -> Execution
     ensures { (result.state ≡ step state (command (request block.now response.old))) × (told result.outcome response.new ≡ result_of state (command (request block.now response.old))) }
 {

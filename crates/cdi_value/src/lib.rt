@@ -80,14 +80,12 @@ fn setting(settings: &Settings, item: u8) -> Option<u8>
     }
 }
 
-// Writes a value over the front of `out`, and returns how many bytes that is. `byte_copy` would test once more whether it fits, and here it does.
-#[tactic(auto, unfolding(logic::specs::Written::written))]
+// Writes a value over the front of `out`, and returns how many bytes that is.
 fn show(value: &[u8], out: &mut [u8]) -> usize
     requires { length value.now ≤ length out.old }
     ensures { Writes value.now out.old out.new result }
 {
-    out[..value.len()].copy_from_slice(value);
-    value.len()
+    byte_copy::copy(value, out)
 }
 
 // The value of an item that has no index, its settings from one copy.

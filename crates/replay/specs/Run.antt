@@ -3,7 +3,7 @@
 --
 -- No contract can say what a call of the system reads or writes, so the following is outside the proof and is tested instead:
 -- - `turn` writes the front of the output buffer to standard output, once and before more is read, and `printed` is whether that went well;
--- - `read_input` reads standard input, `count` and `failed` are the result, and the characters given are those read;
+-- - `read_input` reads standard input, and the characters given are those read; its result is `count`, or `failed` where it is an error;
 -- - `main` calls `replay` once, and `report` writes the reason to standard error if not all is done;
 -- - what the standard library, the C library and the system do in these calls.
 -- So a program that made up what it reads would meet these contracts; the tests rule that out.

@@ -32,7 +32,7 @@ struct Streams {
 }
 
 // What goes from one turn to the next: the state, which part of the input buffer is not answered yet, and whether the input has ended
-// after it.
+// after it. The part is a place in a buffer of fixed length, since nothing is allocated; that the input has ended says nothing of another value.
 #[derive(Clone, Copy)]
 struct Session {
     state: ModuleState,
