@@ -42,7 +42,7 @@ impl From<Refusal> for ResponseError {
 
 // What is told to C: the number of the refusal or 0; with 23 the place in the payload; where the value, or the echo, is in the block.
 #[repr(C)]
-#[derive(Clone, Copy)]
+#[derive(Clone, Copy, Default)]
 pub struct Decoded {
     pub refusal: u8,
     pub place: usize,
@@ -63,15 +63,12 @@ impl From<Result<Span, ResponseError>> for Decoded {
             },
             Err(ResponseError::Refused(refusal)) => Decoded {
                 refusal: refusal.number(),
-                place: 0,
-                start: 0,
-                length: 0,
+                ..Decoded::default()
             },
             Err(ResponseError::NoSuchResponse { place }) => Decoded {
                 refusal: Refusal::NoSuchResponse.number(),
                 place,
-                start: 0,
-                length: 0,
+                ..Decoded::default()
             },
         }
     }
@@ -122,7 +119,7 @@ fn count_same(expected: &[u8], found: &[u8]) -> usize
 }
 
 // Whether a payload begins with the head of the response to a read: its kind, the item and the index again. What is known of the two lengths, here
-// and below, comes from different tests, so one type for it would be no plainer.
+// and below, comes from different tests, so one type for both payloads would be no plainer.
 fn has_head(sent: &[u8], payload: &[u8]) -> bool
     requires { (2 ≤ length sent.now) × (length sent.now ≤ 3) }
     ensures { MatchBool result (SameUpTo (read_head sent.now) payload.now (length sent.now)) (SameUpTo (read_head sent.now) payload.now (length sent.now) → ⊥) }
@@ -138,7 +135,7 @@ fn has_head(sent: &[u8], payload: &[u8]) -> bool
     }
 }
 
-// How many bytes of a payload are that head, from the first on.
+// How many bytes of a payload are that head, from the first on. It is asked only where the head is wrong: to count it first took more instructions.
 fn count_head(sent: &[u8], payload: &[u8]) -> usize
     requires { (2 ≤ length sent.now) × (1 ≤ length payload.now) }
     ensures { SameUpTo (read_head sent.now) payload.now result }

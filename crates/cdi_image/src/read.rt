@@ -11,6 +11,7 @@ use super::{
 use cdi_item::{ROW_LENGTH, SLOT_COUNT};
 use cdi_state::{AnalogInput, Settings, Slot, Stored};
 
+// This and the next have one form. A function over the place and the bytes would be no plainer: it would be `==` once more.
 #[tactic(auto, using(crate::proofs::Fit::pointwise_is_same))]
 pub(crate) fn has_mark(image: &[u8]) -> bool
     requires { head_size ≤ length image.now }

@@ -40,7 +40,8 @@ fn put_payload(payload: &[u8], value: &[u8], out: &mut [u8]) -> usize
     }
 }
 
-// The payload stands behind the start byte, the sync byte and the length byte.
+// The payload stands behind the start byte, the sync byte and the length byte. The reader of responses has the number too: neither crate uses the
+// other.
 const PAYLOAD_START: usize = 3;
 
 // Writes the frame of the response to an accepted command over the front of `response`, and returns its length.

@@ -57,17 +57,9 @@ pub(crate) fn read_row(code: u8, item: Item, index: Index) -> Payload
 pub(crate) fn store(code: u8, item: Item, value: Value) -> Payload
     ensures { result ≡ code ∷ item.code ∷ value_in item value }
 {
+    let [first, second, third, fourth, fifth] = <[u8; ROW_LENGTH]>::from(value);
     Payload {
-        bytes: [
-            code,
-            item.code,
-            value.byte0,
-            value.byte1,
-            value.byte2,
-            value.byte3,
-            value.byte4,
-            0,
-        ],
+        bytes: [code, item.code, first, second, third, fourth, fifth, 0],
         length: PLAIN_VALUE + value_length(item),
     }
 }
@@ -77,17 +69,9 @@ pub(crate) fn store_row(code: u8, item: Item, index: Index, value: Value) -> Pay
     ensures { result ≡ code ∷ item.code ∷ index_byte index ∷ value_in item value }
 {
     let at = index_byte(index);
+    let [first, second, third, fourth, fifth] = <[u8; ROW_LENGTH]>::from(value);
     Payload {
-        bytes: [
-            code,
-            item.code,
-            at,
-            value.byte0,
-            value.byte1,
-            value.byte2,
-            value.byte3,
-            value.byte4,
-        ],
+        bytes: [code, item.code, at, first, second, third, fourth, fifth],
         length: ROW_VALUE + value_length(item),
     }
 }

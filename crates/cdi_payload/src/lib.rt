@@ -10,7 +10,8 @@ ghost use Rattle.cdi_command.specs.Payload.{command_payload, payload_max};
 use cdi_command::{Command, ERASE_ALL, PAYLOAD_MAX, PROGRAM, READ, READ_NV, SET_DEFAULT, WRITE};
 use std::marker::Model;
 
-// A command's payload. Its bytes come first, and the bytes after them are free.
+// A command's payload. Its bytes come first, and the bytes after them are free. It is an array and a length, since nothing is allocated here; a contract sees
+// the list of its bytes.
 #[derive(Drop)]
 pub struct Payload {
     bytes: [u8; PAYLOAD_MAX],

@@ -29,7 +29,7 @@ fn with_byte(settings: Settings, item: u8, byte: u8) -> Settings
     after
 }
 
-// One copy of the settings with another input. A number that is no input's changes nothing.
+// One copy of the settings with another input, which document 01 numbers 1 and 2 in the source too. A number that is no input's changes nothing.
 fn with_input(settings: Settings, number: InputNumber, value: Value) -> Settings
     ensures { result ≡ input_stored settings number.0 (input_from value) }
 {
@@ -58,7 +58,8 @@ pub fn store(state: ModuleState, decided: Result<Command, Refusal>) -> ModuleSta
             working.settings = with_input(working.settings, number, value);
         }
         Ok(Command::Program(item, value)) if item.code == code::ADDRESS => {
-            stored.address = [value.byte0, value.byte1, value.byte2, value.byte3];
+            let [first, second, third, fourth, _] = <[u8; ROW_LENGTH]>::from(value);
+            stored.address = [first, second, third, fourth];
         }
         Ok(Command::Program(item, Value { byte0, .. })) => {
             stored.settings = with_byte(stored.settings, item.code, byte0);

@@ -29,18 +29,23 @@ fn accepts_byte(item: u8, byte: u8) -> bool
     cdi_item::accepts(item, Value::from([byte, 0, 0, 0, 0]))
 }
 
-fn is_valid_input(input: AnalogInput) -> bool
-    ensures { result ≡ valid_input input }
+// Whether an item accepts a row of five bytes as its value.
+fn accepts_row(item: u8, row: [u8; ROW_LENGTH]) -> bool
+    ensures { result ≡ accepted_value item row }
 {
-    let row = <[u8; ROW_LENGTH]>::from(input);
-    cdi_item::accepts(code::ANALOG_INPUT, Value::from(row))
+    cdi_item::accepts(item, Value::from(row))
 }
 
 fn is_valid_slot(slot: Slot) -> bool
     ensures { result ≡ valid_slot slot }
 {
-    let row = <[u8; ROW_LENGTH]>::from(slot);
-    cdi_item::accepts(code::PAIRED_MODULE, Value::from(row))
+    accepts_row(code::PAIRED_MODULE, slot.into())
+}
+
+fn is_valid_input(input: AnalogInput) -> bool
+    ensures { result ≡ valid_input input }
+{
+    accepts_row(code::ANALOG_INPUT, input.into())
 }
 
 // No slot ends the loop early, as one would end `all`: without a branch for each, the loop is cheaper.

@@ -130,7 +130,7 @@ fn read_row(stored: &Stored, settings: &Settings, index: Index, out: &mut [u8]) 
     }
 }
 
-// Writes what a command reads over the front of `out`, and returns how many bytes that is: Read the working copy, Read NV the stored one,
+// Writes what a command reads over the front of `out`, and returns how many bytes that is, a count and no sign where it is 0: Read the working copy, Read NV the stored one,
 // any other command nothing. Where `out` has less room than the longest value, nothing is read.
 #[tactic(auto, unfolding(logic::specs::Written::written))]
 pub fn read(state: ModuleState, command: Command, out: &mut [u8]) -> usize

@@ -1,5 +1,5 @@
 // The entries of include/coyote.h, which says what each reads and writes. No enum crosses the C boundary. `coyote_exports` has each under
-// the name that C calls.
+// the name that C calls. A contract speaks of outcome and buffer apart, since C is told a struct and no `Result`.
 #![tactic(auto, using(refusal::proofs::Told::outcome_told))]
 
 ghost use Rattle.std.specs.Prelude.{◌≡◌, length};

@@ -1,6 +1,6 @@
 // The entries of include/freestar.h, which says what each reads and writes. No enum crosses the C boundary. The settings stay where the
 // caller has them and are updated there: `freestar_execute` calls `execute` with their value and stores the settings of its result.
-// `freestar_exports` has each entry under the name that C calls.
+// `freestar_exports` has each entry under the name that C calls. A contract speaks of outcome and buffer apart, since C is told a struct and no `Result`.
 #![tactic(auto)]
 
 ghost use Rattle.std.specs.Prelude.{◌≡◌, length};
@@ -18,7 +18,7 @@ use refusal::{NONE, Outcome, Refusal};
 
 // What was read from a block: freestar_message of the header.
 #[repr(C)]
-#[derive(Clone, Copy)]
+#[derive(Clone, Copy, Default)]
 pub struct MessageFields {
     pub refusal: u8,
     pub kind: u8,
@@ -38,8 +38,7 @@ impl From<Result<Message, Refusal>> for MessageFields {
             },
             Err(refusal) => MessageFields {
                 refusal: refusal.number(),
-                kind: 0,
-                data_length: 0,
+                ..MessageFields::default()
             },
         }
     }

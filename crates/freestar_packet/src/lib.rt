@@ -65,7 +65,8 @@ pub const SUM_START: usize = 0;
 // The first PAN ID that has more than 14 bits.
 pub const PAN_ID_LIMIT: u16 = 0x4000;
 
-// A message that was read: its type, and how many bytes of data it has from byte 3 of its block on.
+// A message that was read: its type, and how many bytes of data it has from byte 3 of its block on. It has no slice of the block, since C's struct has the
+// number; `content` gives the data.
 #[derive(Clone, Copy)]
 pub struct Message {
     pub kind: u8,
@@ -82,7 +83,8 @@ impl Message {
     }
 }
 
-// Whether messages of this type are served and have so many bytes of data.
+// Whether messages of this type are served and have so many bytes of data. A type and data are two values here and below: a writer's caller has them so,
+// and a reader has them from a block.
 #[tactic(auto, unfolding(crate::specs::Layout::fits_in))]
 pub fn fits(kind: u8, size: usize) -> bool
     ensures { result ≡ fits_in types kind size }

@@ -53,7 +53,7 @@ impl Settings {
         Ok(message)
     }
 
-    // Both addresses as one message has them.
+    // Both addresses as one message has them. They are named one by one: a copy of slices would call C's `memmove`, which the library does not need.
     fn addresses(&self) -> [u8; 10]
         ensures { result ≡ address_bytes self.now }
     {

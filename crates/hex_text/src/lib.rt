@@ -25,7 +25,7 @@ pub enum LineError {
 }
 
 // A line of a text: how many bytes its block has, which stand at the buffer's front, or why there is none; and the place of its line
-// feed, or of the text's end where it has none.
+// feed, or of the text's end where it has none. It has no slice of the buffer, which the caller lent and uses again.
 #[derive(Clone, Copy)]
 pub struct LineAt {
     pub line: Result<usize, LineError>,
@@ -71,7 +71,8 @@ const ZERO: usize = b'0' as usize;
 const VALUES: [u8; 23] =
     *b"\x00\x01\x02\x03\x04\x05\x06\x07\x08\x09\0\0\0\0\0\0\0\x0A\x0B\x0C\x0D\x0E\x0F";
 
-// Puts the bytes of a line of pairs over the front of `block`, which has room for them.
+// Puts the bytes of a line of pairs over the front of `block`, which has room for them. How many they are has been found from the line's length, to see
+// whether they fit.
 fn decode(line: &[u8], count: usize, block: &mut [u8])
     requires { (is_block (pairs line.now) ≡ true) × (3 * count ≡ length line.now + 1) × (count ≤ length block.old) }
     ensures { block.new ≡ line_written (pairs line.now) block.old }

@@ -2,14 +2,14 @@
 -- Assumes nothing.
 use Prim.Native.Nat.{ℕ, ◌+◌, ◌-◌, ◌≤◌, min}
 use mathlib.Core.Path.{◌≡◌, sym, ◌∙◌}
-use mathlib.Core.Bool.{Bool, true, ◌||◌}
+use mathlib.Core.Bool.{Bool}
 use mathlib.Core.List.{List}
 use native.Mathlib.Nat.{zero-add}
 use native.Mathlib.Omega.{arith}
 use borrow.Author.Tests.{leb-true, leb-false}
-use lib.Dec.{leb, ltb}
+use lib.Dec.{leb}
 use lib.ListN.{length, take, drop, length-drop}
-use lib.Seq.{take_all, take-take, take-add, length-take-le}
+use lib.Seq.{take_all, take-take, length-take-le}
 use Rattle.std.proofs.lemmas.List.Edits.{take-paste}
 use Rattle.logic.proofs.Choice.{by_cases}
 use Rattle.std.proofs.Math.Seq.{paste}
@@ -38,7 +38,3 @@ moved l from end n ordered inside count =
 module _ (input : List ℕ) (k count : ℕ) (failed : Bool) where
   abbrev pub After : List ℕ → Type 0
   After chars = chars ≡ chars_after (take k input) (take count (drop k input)) (is_end count failed)
-
-  -- what it gave, if anything, follows what is kept
-  pub some-given : failed || ltb 0 count ≡ true → After (take (k + count) input)
-  some-given e = rw e (take-add k count input)

@@ -33,6 +33,8 @@ struct Streams {
 
 // What goes from one turn to the next: the state, which part of the input buffer is not answered yet, and whether the input has ended
 // after it. The part is a place in a buffer of fixed length, since nothing is allocated; that the input has ended says nothing of another value.
+// What is known of `start` and `end` stands in the contracts below: as an invariant it would have to hold between the two stores of a refill. So does what
+// is known of the buffers' lengths: with arrays for slices, which was tried, the proofs of a turn did not close.
 #[derive(Clone, Copy)]
 struct Session {
     state: ModuleState,
@@ -62,7 +64,7 @@ enum Ending {
     Done,
     // It did not read, since whole lines may be left.
     Full,
-    // It read so many bytes. If it read none, the input has ended.
+    // It read so many bytes, as the system counts them. If it read none, the input has ended.
     Read(usize),
 }
 

@@ -13,8 +13,7 @@ use Rattle.std.proofs.Common.{Option, Ok, Err}
 use Rattle.std.specs.Prelude as std
 use Rattle.std.specs.Option.{IsSomeAnd}
 use Rattle.logic.specs.Written.{written_in}
-use Rattle.logic.proofs.Choice.{by_cases}
-use Rattle.response_text.specs.Text.{text_in_hex, refused_text, printed, count_in}
+use Rattle.response_text.specs.Text.{text_in_hex, printed, count_in}
 use Rattle.response_text.proofs.Text.{text_in_hex-length}
 use Rattle.refusal.specs.declared.Refusal.{Refusal}
 use Rattle.refusal.specs.declared.Refusal.TheVariants as case
@@ -34,11 +33,6 @@ pub prints : (text before after : List ℕ) (written : Option ℕ) → length (p
 prints text before after written short room counted placed =
     let fits = le-leb (length (printed text)) (length before) (omega arith) in
     rw (counted, fits) (record { counted = refl; placed = placed ∙ simp fits; few = short })
-
--- the line of a refusal
-pub refused-short : (n : ℕ) → length (printed (refused_text n)) ≤ printed_max
-refused-short n =
-    by_cases (ltb n 10) (λ t. simp t (omega arith)) (λ f. by_cases (ltb n 100) (λ t. simp (f, t) (omega arith)) (λ g. simp (f, g) (omega arith)))
 
 -- the longest response fills the room
 pub response-short : (response : List ℕ) (n : ℕ) → 0 < n → n ≤ length response → n ≤ response_buffer_min
