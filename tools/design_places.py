@@ -58,7 +58,7 @@ def main():
     print(f"5 a fact that three functions require: {len(repeated)}")
     if verbose:
         print(*(f"    {fact}" for fact in repeated), sep="\n")
-    proofs = [path for name in ("Answers", "Invariants") for path in pathlib.Path("crates").glob(f"*/proofs/*/{name}.antt")]
+    proofs = [path for name in ("Answers", "Invariants") for path in pathlib.Path("crates").glob(f"*/proofs/**/{name}.antt")]
     lines = sum(len(path.read_text(encoding="utf-8").splitlines()) for path in proofs)
     print(f"8 files of answers and invariants: {len(proofs)}, {lines} lines")
 
