@@ -28,8 +28,8 @@ pub fn sum_holds(start: usize, packet: &[u8]) -> bool
     sum_from(start, summed) == *sum
 }
 
-// Whether a block has these bytes at its ends. An empty block has none: the test of it stands in the papers' words, and no read without it
-// is allowed.
+// Whether a block has these bytes at its ends. An empty block has none. It is tested first, as the papers name it, and so that there is a byte to
+// read.
 pub fn ends_hold(first: u8, last: u8, block: &[u8]) -> bool
     ensures { result ≡ ends_hold first last block.now }
 {
