@@ -41,6 +41,11 @@ abbrev pub answer : {A : Type 0} → std.Result A Refusal → Result A
 answer (Ok x) = accepted x
 answer (Err e) = refused (number_of e)
 
+-- the same of an answer whose refusal may be any value with a number
+abbrev pub answer_by : {A E : Type 0} → (E → ℕ) → std.Result A E → Result A
+answer_by number (Ok x) = accepted x
+answer_by number (Err e) = refused (number e)
+
 -- what a writer answers: how many bytes it writes, or the number of the refusal
 abbrev pub length_of : Result (List ℕ) → Result ℕ
 length_of (accepted bytes) = accepted (length bytes)
@@ -50,6 +55,11 @@ length_of (refused n) = refused n
 abbrev pub outcome_from : std.Result ℕ Refusal → Outcome
 outcome_from (Ok n) = outcome none n
 outcome_from (Err e) = outcome (number_of e) 0
+
+-- the outcome of an answer whose refusal may be any value with a number
+abbrev pub outcome_by : {E : Type 0} → (E → ℕ) → std.Result ℕ E → Outcome
+outcome_by number (Ok n) = outcome none n
+outcome_by number (Err e) = outcome (number e) 0
 
 -- 13: a packet is written if a buffer with so much room is as long as this packet
 abbrev pub in_room : ℕ → List ℕ → Result (List ℕ)
