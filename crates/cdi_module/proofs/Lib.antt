@@ -9,3 +9,4 @@ pub mod Factory
 pub mod Decided
 pub mod Determined
 pub mod Block
+pub mod AnyNumber

@@ -6,7 +6,7 @@ use Rattle.std.specs.Prelude as std
 use Rattle.logic.specs.Written.{written}
 use Rattle.refusal.specs.declared.Refusal.{Refusal}
 use Rattle.refusal.specs.Refusal.{Result, accepted, refused, and_then, none, invalid, response_buffer_short}
-use Rattle.refusal.specs.Numbers.{outcome_from}
+use Rattle.refusal.specs.Numbers.{outcome_from, outcome_by}
 use Rattle.cdi_frame.specs.Frame.{command_wake_limit, read_frame, payload_in}
 use Rattle.cdi_frame.specs.Layout.{response_frame}
 use Rattle.cdi_command.specs.declared.Command.{Command}
@@ -81,10 +81,19 @@ abbrev pub responded_to : ModuleState → Result Command → List ℕ → StepRe
 responded_to s r response =
     cond (ltb (length response) response_buffer_min) (responded response_buffer_short 0 response) (block_result s response (decided r))
 
+-- how many bytes it answers with, or the number of the refusal; so a refusal with the number 0, which the result tells as it tells no refusal, is one
+abbrev pub length_responded : ModuleState → Result Command → List ℕ → Result ℕ
+length_responded s r response =
+    cond (ltb (length response) response_buffer_min) (refused response_buffer_short) (and_then r (λ c. accepted (length (response_to s c))))
+
 -- ---- what the answers of the source tell
 -- of a block: the number of the refusal or none, the length of the response, and the buffer afterwards
 abbrev pub told : std.Result ℕ Refusal → List ℕ → StepResult
 told r response = responded (outcome_from r).refusal (outcome_from r).length response
+
+-- the same of a block whose refusal may be any value with a number
+abbrev pub told_by : {E : Type 0} → (E → ℕ) → std.Result ℕ E → List ℕ → StepResult
+told_by number r response = responded (outcome_by number r).refusal (outcome_by number r).length response
 
 -- of a power-up: the state after it. A refusal leaves the state
 abbrev pub state_left : ModuleState → std.Result ModuleState Refusal → ModuleState

@@ -7,16 +7,16 @@ mod response;
 ghost use Rattle.std.specs.Prelude.{◌≡◌, [], ◌≤◌, length};
 ghost use Rattle.logic.specs.Written.{Writes};
 ghost use Rattle.refusal.specs.Refusal.{refusal_of};
-ghost use Rattle.refusal.specs.Numbers.{answer};
+ghost use Rattle.refusal.specs.Numbers.{answer, answer_by};
 ghost use Rattle.cdi_command.specs.Payload.{response_buffer_min};
 ghost use Rattle.cdi_model.specs.Step.{request, command, power_up, powered_up};
-ghost use Rattle.cdi_module.specs.Module.{decided, decide_given, response_with, response_to, responded_to, step, result_of, told, state_left};
+ghost use Rattle.cdi_module.specs.Module.{decided, decide_given, response_with, response_to, responded_to, length_responded, step, result_of, told, told_by, state_left};
 
 use cdi_command::Command;
 use cdi_frame::WAKE_LIMIT;
 use cdi_item::NAME_LENGTH;
 use cdi_state::ModuleState;
-use refusal::Refusal;
+use refusal::{Numbered, Refusal};
 
 // The longest response is that to a Read of the name: three bytes of the frame, C1, the item and 17 bytes.
 pub const RESPONSE_BUFFER_MIN: usize = 22;
@@ -71,7 +71,7 @@ fn write_accepted(state: ModuleState, command: Command, response: &mut [u8]) -> 
     requires { response_buffer_min ≤ length response.old }
     ensures { Writes (response_to state command) response.old response.new result }
 {
-    if cdi_store::stores(Ok(command)) {
+    if cdi_store::stores(Ok::<Command, Refusal>(command)) {
         return write_ack(command, response);
     }
     write_read(state, command, response)
@@ -80,15 +80,16 @@ fn write_accepted(state: ModuleState, command: Command, response: &mut [u8]) -> 
 // Responds to what was decided on a block, by the state as the block finds it. The response is written over the front of `response` and
 // the bytes after it stay. A refusal changes no byte of it, and is passed on, whatever it is. A buffer that is too short for the
 // longest response is refused.
-pub fn respond(
+pub fn respond<E: Numbered>(
     state: ModuleState,
-    decided: Result<Command, Refusal>,
+    decided: Result<Command, E>,
     response: &mut [u8],
-) -> Result<usize, Refusal>
-    ensures { told result response.new ≡ responded_to state (answer decided) response.old }
+) -> Result<usize, E>
+    ensures { (told_by E.as_number result response.new ≡ responded_to state (answer_by E.as_number decided) response.old)
+        × (answer_by E.as_number result ≡ length_responded state (answer_by E.as_number decided) response.old) }
 {
     if response.len() < RESPONSE_BUFFER_MIN {
-        return Err(Refusal::ResponseBufferShort);
+        return Err(E::of(Refusal::ResponseBufferShort));
     }
     let command = decided?;
     Ok(write_accepted(state, command, response))

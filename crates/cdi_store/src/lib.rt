@@ -3,13 +3,13 @@
 #![tactic(auto)]
 
 ghost use Rattle.std.specs.Prelude.{◌≡◌};
-ghost use Rattle.refusal.specs.Numbers.{answer};
+ghost use Rattle.refusal.specs.Numbers.{answer_by};
 ghost use Rattle.cdi_store.specs.Store.{setting_stored, input_stored, input_from, state_for, stores_for, state_at_power_up};
 
 use cdi_command::{Command, Index};
 use cdi_item::{InputNumber, ROW_LENGTH, SLOT_COUNT, Value, code};
 use cdi_state::{AnalogInput, Live, ModuleState, RSSI_LENGTH, RSSI_NONE, Settings, Slot, Working};
-use refusal::Refusal;
+use refusal::Numbered;
 
 // One copy of the settings with another byte, by its item's code. A code that is no setting's changes nothing.
 #[tactic(auto, unfolding(crate::specs::Store::setting_stored))]
@@ -43,10 +43,10 @@ fn with_input(settings: Settings, number: InputNumber, value: Value) -> Settings
     after
 }
 
-// The state after what was decided: what is refused stores nothing.
+// The state after what was decided: what is refused stores nothing, whatever its number is.
 #[tactic(auto, unfolding(crate::specs::Store::setting_stored))]
-pub fn store(state: ModuleState, decided: Result<Command, Refusal>) -> ModuleState
-    ensures { result ≡ state_for state (answer decided) }
+pub fn store<E: Numbered>(state: ModuleState, decided: Result<Command, E>) -> ModuleState
+    ensures { result ≡ state_for state (answer_by E.as_number decided) }
 {
     let mut stored = state.stored;
     let mut working = state.working;
@@ -87,8 +87,8 @@ pub fn store(state: ModuleState, decided: Result<Command, Refusal>) -> ModuleSta
 }
 
 // Whether what was decided stores anything: the reads do not, and what is refused does not.
-pub fn stores(decided: Result<Command, Refusal>) -> bool
-    ensures { result ≡ stores_for (answer decided) }
+pub fn stores<E: Numbered>(decided: Result<Command, E>) -> bool
+    ensures { result ≡ stores_for (answer_by E.as_number decided) }
 {
     match decided {
         Err(_) => false,

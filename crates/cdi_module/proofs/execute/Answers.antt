@@ -6,9 +6,9 @@ use Rattle.cdi_module.proofs.execute.Goals as goal
 pub returns-then-stores : goal.returns-then-stores
 returns-then-stores c =
     let is = rw c.is_valid-valid.ensures at c.decide-decided.ensures in
-    (c.store-state.ensures ∙ executed_state _ _ _ _ is, c.respond-outcome.ensures ∙ executed_result _ _ _ _ is)
+    (c.store-state.ensures ∙ executed_state _ _ _ _ is, c.respond-outcome.ensures.0 ∙ executed_result _ _ _ _ is)
 
 pub returns-else-stores : goal.returns-else-stores
 returns-else-stores c =
     let is = rw c.is_valid-valid.ensures at c.decide-decided.ensures in
-    (executed_kept _ _ _ _ is (sym c.stores.ensures ∙ c.if-stores.false), c.respond-outcome.ensures ∙ executed_result _ _ _ _ is)
+    (executed_kept _ _ _ _ is (sym c.stores.ensures ∙ c.if-stores.false), c.respond-outcome.ensures.0 ∙ executed_result _ _ _ _ is)

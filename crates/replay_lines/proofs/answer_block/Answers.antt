@@ -7,7 +7,7 @@ use Rattle.replay_lines.proofs.answer_block.Goals as goal
 
 pub write_outcome-requires : goal.write_outcome-requires
 write_outcome-requires c = (
-  response-held c.args.state (replicate response_buffer_min 0) _ (omega arith) c.args.decided c.respond-outcome.result c.respond-outcome.ensures,
+  response-held c.args.state (replicate response_buffer_min 0) _ (omega arith) c.args.decided c.respond-outcome.result c.respond-outcome.ensures.0,
   omega arith,
   c.requires,
 )
