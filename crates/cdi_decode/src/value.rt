@@ -65,14 +65,15 @@ impl<'a> Arrived<'a> {
         Value::from([self.bytes[0], 0, 0, 0, 0])
     }
 
-    // A name has no byte after its first 00, and that is its seventeenth byte at the latest.
+    // A name has no byte after its first 00, and that is its seventeenth byte at the latest. So no byte behind the seventeenth is looked at.
     fn place_in_name(&self) -> usize
         requires { self.now.item.code ≡ name }
         ensures { result ≡ place_in_value self.now.item self.now.bytes.now }
     {
-        match self.bytes.iter().position(|byte| *byte == 0) {
-            Some(zero) if zero < NAME_LENGTH => zero + 1,
-            _ => self.bytes.len().min(NAME_LENGTH - 1),
+        let front = &self.bytes[..self.bytes.len().min(NAME_LENGTH)];
+        match front.iter().position(|byte| *byte == 0) {
+            Some(zero) => zero + 1,
+            None => self.bytes.len().min(NAME_LENGTH - 1),
         }
     }
 
