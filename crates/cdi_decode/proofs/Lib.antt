@@ -9,3 +9,4 @@ pub mod Wholes
 pub mod Payloads
 pub mod Ways
 pub mod Commands
+pub mod Told

@@ -58,6 +58,20 @@ read_framed c block = and_then (read_frame response_wakes block) (λ span. accep
 unfoldable pub decode_response : (sent block : List ℕ) → Result Reading
 decode_response sent block = and_then (validate_payload sent) (λ c. read_framed c block)
 
+-- a reading of a payload, with the place of its value in the block that has the payload
+abbrev pub in_block : Reading → Reading
+in_block (response start length) = response (payload_start + start) length
+in_block (no_response place) = no_response place
+
+abbrev pub located : Result Reading → Result Reading
+located r = and_then r (λ reading. accepted (in_block reading))
+
+-- what an answer of the source says was read; no two answers say the same (`answered_determined`)
+abbrev pub answered : std.Result Span ResponseError → Result Reading
+answered (Ok span) = accepted (response span.start span.length)
+answered (Err (Refused e)) = refused (number_of e)
+answered (Err (NoSuchResponse place)) = accepted (no_response place)
+
 -- the fields of each case: where the value is in the block, the number and the place of a payload that is no response, or the number of
 -- another refusal
 abbrev pub reading_fields : Reading → Decoded

@@ -15,7 +15,7 @@ ghost use Rattle.cdi_command.specs.Payload.{ack_response, no_error};
 ghost use Rattle.cdi_decode.specs.declared.ResponseError.TheVariants.{Refused};
 ghost use Rattle.cdi_decode.specs.Scan.{SameUpTo, read_kind, read_head};
 ghost use Rattle.cdi_decode.specs.Follow.{no_value};
-ghost use Rattle.cdi_decode.specs.Decode.{read_as, read_payload, reading_fields, decode_response, read_framed, decoded_fields, decoded_from};
+ghost use Rattle.cdi_decode.specs.Decode.{read_as, read_payload, decode_response, read_framed, in_block, located, answered, decoded_fields, decoded_from};
 
 use cdi_command::{ACK_RESPONSE, NO_ERROR, PAYLOAD_MAX, READ, READ_NV_RESPONSE, READ_RESPONSE};
 use cdi_frame::Span;
@@ -150,7 +150,7 @@ fn count_head(sent: &[u8], payload: &[u8]) -> usize
 #[tactic(auto, using(crate::proofs::Ways::value_ways))]
 fn read_value(item: Item, sent: &[u8], payload: &[u8]) -> Result<Span, ResponseError>
     requires { (item_of item.code ≡ accepted item) × (2 ≤ length sent.now) × (length sent.now ≤ 3) × (1 ≤ length payload.now) }
-    ensures { decoded_from result ≡ reading_fields (read_as (read_head sent.now) item (length sent.now) payload.now) }
+    ensures { answered result ≡ accepted (in_block (read_as (read_head sent.now) item (length sent.now) payload.now)) }
 {
     if !has_head(sent, payload) {
         return Err(ResponseError::NoSuchResponse {
@@ -177,7 +177,7 @@ fn read_value(item: Item, sent: &[u8], payload: &[u8]) -> Result<Span, ResponseE
 #[tactic(auto, using(crate::proofs::Ways::echo_ways))]
 fn read_echo(sent: &[u8], payload: &[u8]) -> Result<Span, ResponseError>
     requires { 1 ≤ length payload.now }
-    ensures { decoded_from result ≡ reading_fields (read_as (ack_response ∷ no_error ∷ sent.now) no_value 2 payload.now) }
+    ensures { answered result ≡ accepted (in_block (read_as (ack_response ∷ no_error ∷ sent.now) no_value 2 payload.now)) }
 {
     match payload {
         [ACK_RESPONSE, NO_ERROR, echoed @ ..] => {
@@ -199,7 +199,7 @@ fn read_echo(sent: &[u8], payload: &[u8]) -> Result<Span, ResponseError>
 // Reads a payload as the response to a command whose own payload is `sent`, with the item that it is about, if it is about one.
 fn read_payload(about: Option<Item>, sent: &[u8], payload: &[u8]) -> Result<Span, ResponseError>
     requires { (validate_payload sent.now ≡ accepted (command_about about sent.now)) × (1 ≤ length payload.now) }
-    ensures { decoded_from result ≡ reading_fields (read_payload (command_about about sent.now) payload.now) }
+    ensures { answered result ≡ accepted (in_block (read_payload (command_about about sent.now) payload.now)) }
 {
     match about {
         Some(item) if cdi_command::is_read(sent[0]) => read_value(item, sent, payload),
@@ -210,7 +210,7 @@ fn read_payload(about: Option<Item>, sent: &[u8], payload: &[u8]) -> Result<Span
 // Reads a block as the response to such a command.
 fn read_block(about: Option<Item>, sent: &[u8], block: &[u8]) -> Result<Span, ResponseError>
     requires { validate_payload sent.now ≡ accepted (command_about about sent.now) }
-    ensures { decoded_from result ≡ decoded_fields (read_framed (command_about about sent.now) block.now) }
+    ensures { answered result ≡ located (read_framed (command_about about sent.now) block.now) }
 {
     let span = cdi_frame::read_frame(block, RESPONSE_WAKES)?;
     let end = span.start + span.length;
@@ -218,10 +218,11 @@ fn read_block(about: Option<Item>, sent: &[u8], block: &[u8]) -> Result<Span, Re
 }
 
 // Reads a block as the response to a payload that was sent. The refusals of the payload come first, as the host's writer gives them, then
-// those of the frame, then 23.
-#[tactic(auto, unfolding(crate::specs::Decode::decode_response))]
+// those of the frame, then 23. The first clause leaves one answer. The second is what C is told of it.
+#[tactic(auto, using(crate::proofs::Told::fields_told), unfolding(crate::specs::Decode::decode_response))]
 pub fn decode_response(sent: &[u8], block: &[u8]) -> Result<Span, ResponseError>
-    ensures { decoded_from result ≡ decoded_fields (decode_response sent.now block.now) }
+    ensures read { answered result ≡ located (decode_response sent.now block.now) }
+    ensures told { decoded_from result ≡ decoded_fields (decode_response sent.now block.now) }
 {
     let about = cdi_command::check_payload(sent)?;
     read_block(about, sent, block)

@@ -9,6 +9,7 @@ use borrow.Author.Tests.{lt-ltb, le-leb, lt-leb}
 use lib.Dec.{ltb}
 use lib.ListN.{length, take, drop, replicate, get_or-replicate}
 use lib.Seq.{drop-drop}
+use Rattle.std.specs.Prelude.{Err}
 use Rattle.logic.specs.Lists.{all, part, Bytes}
 use Rattle.cdi_frame.specs.Layout.{response_frame}
 use Rattle.logic.specs.Written.{written}
@@ -24,7 +25,9 @@ use Rattle.cdi_command.specs.declared.Command.TheVariants.{Read as ReadPlain, Re
 use Rattle.cdi_command.specs.Command.{select, command_on, parse_item, is_served, is_head_length_right, parse_payload, validate_payload}
 use Rattle.cdi_host.specs.Encode.{encode_command}
 use Rattle.cdi_decode.specs.Follow.{may_follow_in, may_follow, is_whole}
-use Rattle.cdi_decode.specs.Decode.{Reading, response, no_response, first_failing, read_as, read_payload, decode_response}
+use Rattle.cdi_decode.specs.declared.ResponseError.TheVariants.{NoSuchResponse}
+use Rattle.cdi_decode.specs.Decode.{Reading, response, no_response, first_failing, read_as, read_payload, decode_response, located}
+use Rattle.cdi_decode.proofs.Told.{answered_determined}
 use Rattle.cdi_state.specs.declared.ModuleState.{ModuleState}
 use Rattle.cdi_state.specs.State.{no_slot, empty_slot, factory_state, OffsetLengths}
 use Rattle.cdi_valid.specs.Valid.{is_valid}
@@ -271,6 +274,15 @@ module _ (block : List ℕ) (bytes : Bytes block) where
   block-placed place e =
       let t = block_theorem ask_message block bytes (no_response place) e in omega (arith, t.means.2, ap length t.framed)
 
+-- ---- responses whose first byte is wrong
+kind_wrong : located (decode_response ask_message (response_frame (0xC2 ∷ 0x15 ∷ 0x06 ∷ []))) ≡ accepted (no_response 0)
+unfolding wakes length_at read_frame items item_in item_of accepted_value select command_on parse_item is_served is_head_length_right parse_payload validate_payload may_follow_in may_follow is_whole first_failing read_as read_payload decode_response
+kind_wrong = refl
+
+ack_wrong : located (decode_response write_message (response_frame (0xC1 ∷ 0x15 ∷ 0x03 ∷ []))) ≡ accepted (no_response 0)
+unfolding wakes length_at read_frame items item_in item_of accepted_value select command_on parse_item is_served is_head_length_right parse_payload validate_payload may_follow_in may_follow is_whole first_failing read_as read_payload decode_response
+ack_wrong = refl
+
 -- ---- the factory state
 factory_is_valid : ValidState factory_state
 unfolding is_valid accepted_value
@@ -331,6 +343,8 @@ sentences = record {
   block_impossible = block_is_impossible;
   echo_told = echo_is_told;
   block-place = block-placed;
+  one_answer = λ r e. answered_determined r (Err (NoSuchResponse 0)) (e ∙ kind_wrong);
+  one_echo = λ r e. answered_determined r (Err (NoSuchResponse 0)) (e ∙ ack_wrong);
   input_back = input_is_back;
   echo_back = echo_is_back;
   valid-enough = λ s v a f b. record { valid = v; array_lengths = a; field_lengths = f; in_bytes = b };

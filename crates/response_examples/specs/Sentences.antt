@@ -1,9 +1,14 @@
--- Sentences about responses, in literal bytes. Each is drawn from a clause of the theorem on the reader (crate cdi_responses), so a clause that is
--- made weaker no longer gives its sentence.
-use Rattle.std.specs.Prelude.{ℕ, ◌+◌, ◌<◌, ◌≤◌, ◌≡◌, true, List, [], ◌∷◌, ◌++◌, length, take, drop, replicate}
+-- Sentences about responses, in literal bytes. Each is drawn from a clause of the theorem on the reader (crate cdi_responses), or from the law that
+-- its contract leaves one answer (crate cdi_decode). So a clause or a law that is made weaker no longer gives its sentence.
+use Rattle.std.specs.Prelude.{ℕ, ◌+◌, ◌<◌, ◌≤◌, ◌≡◌, true, List, [], ◌∷◌, ◌++◌, length, take, drop, replicate, Err}
+use Rattle.std.specs.Prelude as std
 use Rattle.logic.specs.Lists.{part, Bytes}
 use Rattle.refusal.specs.Refusal.{accepted, none}
-use Rattle.cdi_decode.specs.Decode.{response, no_response, decode_response}
+use Rattle.cdi_frame.specs.declared.Span.{Span}
+use Rattle.cdi_frame.specs.Layout.{response_frame}
+use Rattle.cdi_decode.specs.declared.ResponseError.{ResponseError}
+use Rattle.cdi_decode.specs.declared.ResponseError.TheVariants.{NoSuchResponse}
+use Rattle.cdi_decode.specs.Decode.{response, no_response, decode_response, located, answered}
 use Rattle.cdi_state.specs.declared.ModuleState.{ModuleState}
 use Rattle.cdi_state.specs.State.{factory_state, ArrayLengths, FieldLengths}
 use Rattle.cdi_valid.specs.Valid.{is_valid}
@@ -108,6 +113,9 @@ pub record Sentences : Type 0 where
       → part (3 + start) size block ≡ write_message
   pub block-place : (block : List ℕ) → Bytes block → (place : ℕ) → decode_response ask_message block ≡ accepted (no_response place)
       → 3 + place ≤ length block
+  -- the contract of the reader leaves one answer: where the first byte of a response is wrong, its place, and no refusal with 23
+  pub one_answer : (r : std.Result Span ResponseError) → answered r ≡ located (decode_response ask_message (response_frame (0xC2 ∷ 0x15 ∷ 0x06 ∷ []))) → r ≡ Err (NoSuchResponse 0)
+  pub one_echo : (r : std.Result Span ResponseError) → answered r ≡ located (decode_response write_message (response_frame (0xC1 ∷ 0x15 ∷ 0x03 ∷ []))) → r ≡ Err (NoSuchResponse 0)
   -- from every valid state the second input comes back as the state holds it
   pub input_back : (s : ModuleState) → ValidState s → InputRead s
   pub echo_back : (s : ModuleState) → ValidState s → (buffer : List ℕ) → 22 ≤ length buffer → EchoRead s buffer
