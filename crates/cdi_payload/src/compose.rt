@@ -2,6 +2,7 @@
 // Each function writes one layout of the eight bytes; a single one with parts left out would test for each part.
 ghost use Rattle.std.specs.Prelude.{◌≡◌, ◌≤◌, [], ◌∷◌, min};
 ghost use Rattle.cdi_command.specs.Payload.{index_byte, value_in};
+ghost use Rattle.cdi_payload.specs.Carried.{carried};
 
 use super::Payload;
 use cdi_command::{Index, PLAIN_VALUE, ROW_VALUE};
@@ -25,7 +26,7 @@ fn value_length(item: Item) -> usize
 
 // The payload of a command that is its code alone.
 pub(crate) fn bare(code: u8) -> Payload
-    ensures { result ≡ code ∷ [] }
+    ensures { carried result ≡ code ∷ [] }
 {
     Payload {
         bytes: [code, 0, 0, 0, 0, 0, 0, 0],
@@ -35,7 +36,7 @@ pub(crate) fn bare(code: u8) -> Payload
 
 // The payload of a read of an item that has no index.
 pub(crate) fn read(code: u8, item: Item) -> Payload
-    ensures { result ≡ code ∷ item.code ∷ [] }
+    ensures { carried result ≡ code ∷ item.code ∷ [] }
 {
     Payload {
         bytes: [code, item.code, 0, 0, 0, 0, 0, 0],
@@ -45,7 +46,7 @@ pub(crate) fn read(code: u8, item: Item) -> Payload
 
 // The payload of a read of a row.
 pub(crate) fn read_row(code: u8, item: Item, index: Index) -> Payload
-    ensures { result ≡ code ∷ item.code ∷ index_byte index ∷ [] }
+    ensures { carried result ≡ code ∷ item.code ∷ index_byte index ∷ [] }
 {
     Payload {
         bytes: [code, item.code, index_byte(index), 0, 0, 0, 0, 0],
@@ -55,7 +56,7 @@ pub(crate) fn read_row(code: u8, item: Item, index: Index) -> Payload
 
 // The payload of a store of an item that has no index.
 pub(crate) fn store(code: u8, item: Item, value: Value) -> Payload
-    ensures { result ≡ code ∷ item.code ∷ value_in item value }
+    ensures { carried result ≡ code ∷ item.code ∷ value_in item value }
 {
     let [first, second, third, fourth, fifth] = <[u8; ROW_LENGTH]>::from(value);
     Payload {
@@ -66,7 +67,7 @@ pub(crate) fn store(code: u8, item: Item, value: Value) -> Payload
 
 // The payload of a store of a row.
 pub(crate) fn store_row(code: u8, item: Item, index: Index, value: Value) -> Payload
-    ensures { result ≡ code ∷ item.code ∷ index_byte index ∷ value_in item value }
+    ensures { carried result ≡ code ∷ item.code ∷ index_byte index ∷ value_in item value }
 {
     let at = index_byte(index);
     let [first, second, third, fourth, fifth] = <[u8; ROW_LENGTH]>::from(value);

@@ -4,24 +4,27 @@
 
 mod compose;
 
-ghost use Rattle.std.specs.Prelude.{◌≡◌, ℕ, ◌≤◌, List, take};
+ghost use Rattle.std.specs.Prelude.{◌≡◌, ℕ, ◌≤◌, List};
 ghost use Rattle.cdi_command.specs.Payload.{command_payload, payload_max};
+ghost use Rattle.cdi_payload.specs.Carried.{carried};
 
 use cdi_command::{Command, ERASE_ALL, PAYLOAD_MAX, PROGRAM, READ, READ_NV, SET_DEFAULT, WRITE};
 use std::marker::Model;
 
-// A command's payload. Its bytes come first, and the bytes after them are free. It is an array and a length, since nothing is allocated here; a contract sees
-// the list of its bytes.
-#[derive(Drop)]
+// A command's payload. Its bytes come first, and the bytes after them are free. It is an array and a length, since nothing is allocated here. A contract sees
+// both, so that a payload can be copied; its own bytes are `carried`.
+#[derive(Clone, Copy)]
 pub struct Payload {
     bytes: [u8; PAYLOAD_MAX],
     length: usize,
 }
 
 impl Model for Payload {
-    ghost Value = { List ℕ };
+    ghost Value = { ℕ × List ℕ };
 
-    ghost view = { λ p. take p.length p.bytes };
+    ghost view = { λ p. (p.length, p.bytes) };
+
+    ghost inverse = { λ v. record { bytes = v.1; length = v.0 } };
 
     ghost invariant = { λ p. p.length ≤ payload_max };
 }
@@ -29,7 +32,7 @@ impl Model for Payload {
 impl Payload {
     // The payload's own bytes.
     pub fn as_slice(&self) -> &[u8]
-        ensures { result.now ≡ self.now }
+        ensures { result.now ≡ carried self.now }
     {
         &self.bytes[..self.length]
     }
@@ -37,7 +40,7 @@ impl Payload {
 
 // The payload that a command is written as.
 pub fn payload_of(command: Command) -> Payload
-    ensures { result ≡ command_payload command }
+    ensures { carried result ≡ command_payload command }
 {
     match command {
         Command::Read(item) => compose::read(READ, item),
