@@ -75,6 +75,7 @@ front_of (a ∷ b ∷ c ∷ rest) h l e =
 pub record Framed (block : List ℕ) (m : Message) : Type 0 where
   pub message_is : m ≡ message_of block
   pub enough : overhead ≤ length block
+  pub size_is : get_or block 1 0 ≡ length block
   pub frame_is : block ≡ packet_bytes m.kind (data_in block)
 
 pub accepted-frame : (block : List ℕ) (m : Message) → read_frame block ≡ accepted m → Framed block m
@@ -93,6 +94,7 @@ accepted-frame block m e =
     record {
       message_is = cc;
       enough = low;
+      size_is = size;
       frame_is =
           whole ∙ ap (λ (z : ℕ). summed sum_start z (take (length block - 2) block)) ends.1 ∙ ap (summed sum_start end) before ∙
           ap (λ (x : Message). packet_bytes x.kind (data_in block)) is;

@@ -136,6 +136,7 @@ pub fn pan_id_holds(kind: u8, content: &[u8]) -> bool
 }
 
 // Accepts what a message of this type may hold, for the reader and the writer: 27 for its type or its length, then 28.
+#[inline(always)]
 pub fn validate(kind: u8, content: &[u8]) -> Result<(), Refusal>
     ensures { answer result ≡ validated kind content.now tt }
 {

@@ -20,6 +20,7 @@ use Rattle.freestar_settings.specs.Settings.{stored, validate_message, validate,
 pub record Valid (s : Settings) (block : List ℕ) (m : Message) : Type 0 where
   pub framed : read_frame block ≡ accepted m
   pub fitting : fits_in requests m.kind (length (data_in block)) ≡ true
+  pub message-holds : pan_id_holds m.kind (data_in block) ≡ true
   pub settings_hold : pan_id_fits s.pan_id ≡ true
 
 of_frame : (s : Settings) (block : List ℕ) (m : Message) (r : Result Message) → read_frame block ≡ r
@@ -32,6 +33,7 @@ of_frame s block m (accepted x) e said =
     record {
       framed = e ∙ ap accepted same;
       fitting = subst (λ (y : Message). fits_in requests y.kind (length (data_in block)) ≡ true) same a.0;
+      message-holds = subst (λ (y : Message). pan_id_holds y.kind (data_in block) ≡ true) same both.0;
       settings_hold = both.1;
     }
 of_frame s block m (refused n) e said = never_both n m said

@@ -9,11 +9,11 @@ ghost use Rattle.freestar_model.specs.Model.{delivery};
 ghost use Rattle.freestar_settings.specs.Settings.{ArrayLengths, address_bytes, stored, answer, validate, step, result_of};
 
 use freestar_packet::{
-    ANSWER, Message, QUERY_ADDRESS, QUERY_CHANNEL, QUERY_PAN_ID, SET_ADDRESS, SET_CHANNEL,
-    SET_PAN_ID,
+    Message, QUERY_ADDRESS, QUERY_CHANNEL, QUERY_PAN_ID, RESET_ACKNOWLEDGED, RESPOND_ADDRESS,
+    RESPOND_CHANNEL, RESPOND_PAN_ID, SET_ADDRESS, SET_ADDRESS_ACKNOWLEDGED, SET_CHANNEL,
+    SET_CHANNEL_ACKNOWLEDGED, SET_PAN_ID, SET_PAN_ID_ACKNOWLEDGED,
 };
 use refusal::Refusal;
-use std::slice;
 
 // The settings, each in the order of its bytes in a message: the low byte first.
 #[repr(C)]
@@ -54,42 +54,44 @@ impl Settings {
     }
 
     // Both addresses as one message has them. They are named one by one: a copy of slices would call C's `memmove`, which the library does not need.
-    fn addresses(&self) -> [u8; 10]
-        ensures { result ≡ address_bytes self.now }
+    fn addresses(self) -> [u8; 10]
+        ensures { result ≡ address_bytes self }
     {
         let [a, b, c, d, e, f, g, h] = self.long_address;
         let [i, j] = self.short_address;
         [a, b, c, d, e, f, g, h, i, j]
     }
 
-    // Writes the answer to a message, if there is room for it.
-    fn respond(&self, message: Message, response: &mut [u8]) -> Result<usize, Refusal>
-        requires { (fits_in requests message.kind message.data_length ≡ true) × (pan_id_fits self.now.pan_id ≡ true) }
-        ensures { WritesIfAccepted (in_room (length response.old) (answer self.now message.kind)) response.old response.new result }
+    // Writes the answer to a message, if there is room for it. Each type has a call of its own, so that the writer is compiled for data of one length.
+    fn respond(self, message: Message, response: &mut [u8]) -> Result<usize, Refusal>
+        requires { (fits_in requests message.kind message.data_length ≡ true) × (pan_id_fits self.pan_id ≡ true) }
+        ensures { WritesIfAccepted (in_room (length response.old) (answer self message.kind)) response.old response.new result }
     {
-        let addresses = self.addresses();
-        let content: &[u8] = match message.kind {
-            QUERY_PAN_ID => &self.pan_id,
-            QUERY_ADDRESS => &addresses,
-            QUERY_CHANNEL => slice::from_ref(&self.channel),
-            _ => b"",
-        };
-        let kind = ANSWER + message.kind;
-        freestar_encode::encode(kind, content, response)
+        match message.kind {
+            SET_PAN_ID => freestar_encode::encode(SET_PAN_ID_ACKNOWLEDGED, b"", response),
+            QUERY_PAN_ID => freestar_encode::encode(RESPOND_PAN_ID, &self.pan_id, response),
+            SET_ADDRESS => freestar_encode::encode(SET_ADDRESS_ACKNOWLEDGED, b"", response),
+            QUERY_ADDRESS => freestar_encode::encode(RESPOND_ADDRESS, &self.addresses(), response),
+            SET_CHANNEL => freestar_encode::encode(SET_CHANNEL_ACKNOWLEDGED, b"", response),
+            QUERY_CHANNEL => freestar_encode::encode(RESPOND_CHANNEL, &[self.channel], response),
+            _ => freestar_encode::encode(RESET_ACKNOWLEDGED, b"", response),
+        }
     }
 
     // Stores the data of a message of this type.
-    #[tactic(auto, unfolding(crate::specs::Settings::stored, freestar_packet::specs::Layout::fits_in))]
+    #[tactic(auto, using(logic::proofs::Places::part_is_bytes), unfolding(crate::specs::Settings::stored, freestar_packet::specs::Layout::fits_in))]
     fn store(&mut self, kind: u8, content: &[u8])
         requires { fits_in requests kind (length content.now) ≡ true }
         ensures { self.new ≡ stored self.old kind content.now }
     {
         match kind {
-            SET_PAN_ID => self.pan_id = content.try_into().unwrap(),
+            SET_PAN_ID => self.pan_id = [content[0], content[1]],
             SET_ADDRESS => {
-                let (long, short) = content.split_at(8);
-                self.long_address = long.try_into().unwrap();
-                self.short_address = short.try_into().unwrap();
+                self.long_address = [
+                    content[0], content[1], content[2], content[3], content[4], content[5],
+                    content[6], content[7],
+                ];
+                self.short_address = [content[8], content[9]];
             }
             SET_CHANNEL => self.channel = content[0],
             _ => {}
