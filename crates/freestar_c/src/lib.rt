@@ -60,14 +60,33 @@ pub fn freestar_encode(kind: u8, content: &[u8], packet: &mut [u8]) -> Outcome
     freestar_encode::encode(kind, content, packet).into()
 }
 
-// Executes one message on the settings.
+// What a message leaves, by value: the settings, and the outcome as C has it.
+#[derive(Clone, Copy)]
+struct Executed {
+    settings: Settings,
+    outcome: Outcome,
+}
+
 #[tactic(auto, using(refusal::proofs::Told::outcome_told))]
+fn execute_by_value(settings: Settings, block: &[u8], response: &mut [u8]) -> Executed
+    ensures { (result.settings ≡ step settings (delivery block.now (length response.old)))
+        × (result.outcome ≡ outcome_of (result_of settings (delivery block.now (length response.old))))
+        × (response.new ≡ buffer_after (result_of settings (delivery block.now (length response.old))) response.old) }
+{
+    let done = freestar_settings::execute(settings, block, response);
+    Executed {
+        settings: done.settings,
+        outcome: done.outcome.into(),
+    }
+}
+
+// Executes one message on the settings.
 pub fn freestar_execute(settings: &mut Settings, block: &[u8], response: &mut [u8]) -> Outcome
     ensures { (settings.new ≡ step settings.old (delivery block.now (length response.old)))
         × (result ≡ outcome_of (result_of settings.old (delivery block.now (length response.old))))
         × (response.new ≡ buffer_after (result_of settings.old (delivery block.now (length response.old))) response.old) }
 {
-    let done = freestar_settings::execute(*settings, block, response);
+    let done = execute_by_value(*settings, block, response);
     *settings = done.settings;
-    done.outcome.into()
+    done.outcome
 }
