@@ -1,1 +1,2 @@
+pub mod ByFields
 pub mod Laws

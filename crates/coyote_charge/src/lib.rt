@@ -8,7 +8,7 @@ ghost use Rattle.coyote_charge.specs.Charge.{export_charge, charge_from, import_
 
 use cdi_item::InputNumber;
 use coyote_encode::Route;
-use coyote_packet::{NO_ACK_DATA, Packet, SEQUENCES};
+use coyote_packet::{ACK, NO_ACK_DATA, SEQUENCES};
 use refusal::Refusal;
 
 // An analog input and its 16-bit readout.
@@ -53,14 +53,17 @@ fn read_charge(block: &[u8], start: usize, size: usize) -> Result<Charge, Refusa
 }
 
 // Reads a block as the packet of a charge.
-#[tactic(auto, unfolding(crate::specs::Charge::import_charge))]
+#[tactic(auto, using(crate::proofs::ByFields::handed_on))]
 pub fn import_charge(block: &[u8]) -> Result<Charge, Refusal>
     ensures { answer result ≡ import_charge block.now }
 {
-    match coyote_decode::decode(block)? {
-        Packet::NoAckData(sent) => {
-            read_charge(block, sent.data_start as usize, sent.data_length as usize)
-        }
+    let fields = coyote_fields::read_fields(block)?;
+    match fields.kind {
+        NO_ACK_DATA..ACK => read_charge(
+            block,
+            fields.data_start as usize,
+            fields.data_length as usize,
+        ),
         _ => Err(Refusal::PacketContent),
     }
 }

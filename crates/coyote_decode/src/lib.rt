@@ -40,16 +40,16 @@ fn read_addressed(kind: u8, payload: &[u8]) -> Result<Packet, Refusal>
     let Some([TARGETS_END, low, high, data @ ..]) = rest.get(end..) else {
         return Err(Refusal::PacketContent);
     };
-    let size = u16::from_le_bytes([*low, *high]);
-    if data.len() != size as usize || !coyote_packet::fits_data(kind, data.len()) {
+    let size = u16::from_le_bytes([*low, *high]) as usize;
+    if data.len() != size || !coyote_packet::fits_data(kind, data.len()) {
         return Err(Refusal::PacketContent);
     }
     let fields = Addressed {
         sequence: kind % SEQUENCES,
         source_group: *source_group,
         source_address: *source_address,
-        target_count: count as u8,
-        data_start: (PAYLOAD_START + SOURCE_LENGTH + end + TARGETS_TAIL) as u16,
+        target_count: count,
+        data_start: PAYLOAD_START + SOURCE_LENGTH + end + TARGETS_TAIL,
         data_length: size,
     };
     Ok(addressed_case(kind, fields))
@@ -82,13 +82,13 @@ fn read_success(payload: &[u8]) -> Result<Packet, Refusal>
     let [request_type, low, high, data @ ..] = payload else {
         return Err(Refusal::PacketContent);
     };
-    let size = u16::from_le_bytes([*low, *high]);
-    if data.len() != size as usize || data.len() > DATA_MAX {
+    let size = u16::from_le_bytes([*low, *high]) as usize;
+    if data.len() != size || data.len() > DATA_MAX {
         return Err(Refusal::PacketContent);
     }
     Ok(Packet::Success(Succeeded {
         request_type: *request_type,
-        data_start: (PAYLOAD_START + SUCCESS_HEAD) as u16,
+        data_start: PAYLOAD_START + SUCCESS_HEAD,
         data_length: size,
     }))
 }

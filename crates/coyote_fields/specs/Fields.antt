@@ -53,6 +53,10 @@ packet_fields (ReadMem m) = other_fields none read_mem_type m.space 0 0 m.addres
 packet_fields (Success s) = other_fields none success_type 0 s.request_type 0 0 0 s.data_start s.data_length
 packet_fields (Failure f) = other_fields none failure_type 0 f.request_type f.code 0 0 0 0
 
+abbrev pub fields_read : Result Packet → Result PacketFields
+fields_read (accepted p) = accepted (packet_fields p)
+fields_read (refused n) = refused n
+
 abbrev pub fields_of : Result Packet → PacketFields
 fields_of (accepted p) = packet_fields p
 fields_of (refused n) = refused_fields n

@@ -3,12 +3,14 @@
 #![tactic(auto)]
 
 ghost use Rattle.std.specs.Prelude.{◌≡◌, ◌≤◌};
+ghost use Rattle.refusal.specs.Numbers.{answer};
 ghost use Rattle.coyote_packet.specs.Layout.{ack_type};
 ghost use Rattle.coyote_packet.specs.Read.{read_packet};
 ghost use Rattle.coyote_packet.specs.Laws.{AddressedSmall, Small};
-ghost use Rattle.coyote_fields.specs.Fields.{addressed_fields, packet_fields, fields_of};
+ghost use Rattle.coyote_fields.specs.Fields.{addressed_fields, packet_fields, fields_read, fields_of};
 
 use coyote_packet::{ACK, ACK_DATA, Addressed, FAILURE, NO_ACK_DATA, Packet, READ_MEM, SUCCESS};
+use refusal::Refusal;
 
 // The number of the refusal or 0, and the packet's type and fields.
 #[repr(C)]
@@ -37,9 +39,9 @@ fn addressed_fields(kind: u8, packet: Addressed) -> PacketFields
         kind: kind + packet.sequence,
         source_group: packet.source_group,
         source_address: packet.source_address,
-        target_count: packet.target_count,
-        data_start: packet.data_start,
-        data_length: packet.data_length,
+        target_count: packet.target_count as u8,
+        data_start: packet.data_start as u16,
+        data_length: packet.data_length as u16,
         ..PacketFields::default()
     }
 }
@@ -63,8 +65,8 @@ fn packet_fields(packet: Packet) -> PacketFields
         Packet::Success(answer) => PacketFields {
             kind: SUCCESS,
             request_type: answer.request_type,
-            data_start: answer.data_start,
-            data_length: answer.data_length,
+            data_start: answer.data_start as u16,
+            data_length: answer.data_length as u16,
             ..PacketFields::default()
         },
         Packet::Failure(answer) => PacketFields {
@@ -76,12 +78,20 @@ fn packet_fields(packet: Packet) -> PacketFields
     }
 }
 
+// Reads a block as exactly one packet, for callers in the source: a refusal is no struct of numbers here.
+pub fn read_fields(block: &[u8]) -> Result<PacketFields, Refusal>
+    ensures { answer result ≡ fields_read (read_packet block.now) }
+{
+    let packet = coyote_decode::decode(block)?;
+    Ok(packet_fields(packet))
+}
+
 // Reads a block as exactly one packet.
 pub fn decode_fields(block: &[u8]) -> PacketFields
     ensures { result ≡ fields_of (read_packet block.now) }
 {
-    match coyote_decode::decode(block) {
-        Ok(packet) => packet_fields(packet),
+    match read_fields(block) {
+        Ok(fields) => fields,
         Err(refusal) => PacketFields {
             refusal: refusal.number(),
             ..PacketFields::default()

@@ -10,7 +10,7 @@ use Rattle.logic.proofs.Choice.{by_cases}
 use Rattle.coyote_packet.specs.Layout.{targets_end, targets_before}
 
 -- the count ends where the bytes end
-none_left : (limit : ℕ) → targets_before limit [] ≡ 0
+pub none_left : (limit : ℕ) → targets_before limit [] ≡ 0
 unfolding targets_before
 none_left zero = refl
 none_left (suc limit) = refl

@@ -66,9 +66,9 @@ pub struct Addressed {
     pub sequence: u8,
     pub source_group: u8,
     pub source_address: u8,
-    pub target_count: u8,
-    pub data_start: u16,
-    pub data_length: u16,
+    pub target_count: usize,
+    pub data_start: usize,
+    pub data_length: usize,
 }
 
 // What ReadMem asks for: MemSpace, Addr and Len.
@@ -83,8 +83,8 @@ pub struct MemoryRead {
 #[derive(Clone, Copy)]
 pub struct Succeeded {
     pub request_type: u8,
-    pub data_start: u16,
-    pub data_length: u16,
+    pub data_start: usize,
+    pub data_length: usize,
 }
 
 // What Failure holds: ReqType and FailCode.
@@ -114,6 +114,7 @@ pub fn count_targets(limit: u8, bytes: &[u8]) -> usize
 }
 
 // Whether bytes are 1 to 16 whole targets, none of which has the group 80.
+#[inline(always)]
 #[tactic(auto, using(crate::proofs::Targets::most))]
 pub fn fits_targets(targets: &[u8]) -> bool
     ensures { result ≡ fit_targets targets.now }
