@@ -56,7 +56,8 @@ fn write(kind: u8, payload: &[&[u8]], packet: &mut [u8]) -> Result<usize, Refusa
     Ok(end + 2)
 }
 
-// Writes AckData, NoAckData or Ack, by its type.
+// Writes AckData, NoAckData or Ack, by its type. It becomes part of its callers, so that an export of a charge is compiled for data of three bytes.
+#[inline(always)]
 #[tactic(auto, unfolding(coyote_packet::specs::Layout::is_accepted, coyote_packet::specs::Layout::payload_of, crate::specs::Encode::encode))]
 pub fn encode_addressed(
     kind: u8,

@@ -29,6 +29,7 @@ fn put_packet(kind: u8, content: &[u8], packet: &mut [u8]) -> usize
 }
 
 // Writes a message of a type that is served.
+#[inline(always)]
 #[tactic(auto, using(freestar_packet::proofs::Types::fits_small, freestar_packet::proofs::Frame::packet_length_lem, freestar_packet::proofs::Frame::validated_ok, freestar_packet::proofs::Frame::validated_err), unfolding(freestar_packet::specs::Encode::encode))]
 pub fn encode(kind: u8, content: &[u8], packet: &mut [u8]) -> Result<usize, Refusal>
     ensures { WritesIfAccepted (encode kind content.now (length packet.old)) packet.old packet.new result }
