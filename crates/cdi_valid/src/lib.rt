@@ -29,7 +29,8 @@ fn accepts_byte(item: u8, byte: u8) -> bool
     cdi_item::accepts(item, Value::from([byte, 0, 0, 0, 0]))
 }
 
-// Whether an item accepts a row of five bytes as its value.
+// Whether an item accepts a row of five bytes as its value. Where it is called the item is known, so one rule is left of all.
+#[inline(always)]
 fn accepts_row(item: u8, row: [u8; ROW_LENGTH]) -> bool
     ensures { result ≡ accepted_value item row }
 {
