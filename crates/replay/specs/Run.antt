@@ -1,5 +1,5 @@
 -- A whole run of the program: the turns that the loop in `replay` makes, why it ends, and what is printed by then. The contract of
--- `replay` says that the session that it returns, and both buffers, are those after such turns.
+-- `replay` says that the session that it leaves, and both buffers, are those after such turns.
 --
 -- No contract can say what a call of the system reads or writes, so the following is outside the proof and is tested instead:
 -- - `turn` writes the front of the output buffer to standard output, once and before more is read, and `printed` is whether that went well;

@@ -156,7 +156,9 @@ fn answer(session: &mut Session, input: &[u8], output: &mut [u8]) -> usize
 }
 
 // Answers as many lines as there is room for, prints the responses, and reads on if no whole line is left. It prints before it reads,
-// so that a user who types a line at a time sees each response before the next line.
+// so that a user who types a line at a time sees each response before the next line. It is a call of its own, so that the session stays where it is: in
+// the body of the loop the state would be taken apart into its bytes, and put together, at each turn.
+#[inline(never)]
 fn turn(
     streams: &mut Streams,
     session: &mut Session,
