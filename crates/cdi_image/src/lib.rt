@@ -58,7 +58,8 @@ pub fn save(state: ModuleState, image: &mut [u8]) -> Result<usize, Refusal>
     if !cdi_valid::is_valid(state) {
         return Err(Refusal::Invalid);
     }
-    write::write_image(&state.stored, image);
+    let stored = state.stored;
+    write::write_image(&stored, image);
     Ok(IMAGE_V1_SIZE)
 }
 
